@@ -1,0 +1,7 @@
+pub mod Choice
+pub mod Digits
+pub mod Decimal
+pub mod Stores
+pub mod Standing
+pub mod OnlyTexts
+pub mod ReadBack
