@@ -1,0 +1,113 @@
+-- Laws of reading a line, one for each outcome. Assumes nothing.
+use mathlib.Core.Path.{_≡_, refl, ap}
+use mathlib.Core.Bool.{true, false}
+use mathlib.Core.List.{List, [], _∷_}
+use mathlib.Core.Logic.{⊎-elim}
+use Prim.Native.Nat.{ℕ, zero, suc, _+_, _-_, _≤_, _<_, suc-le-suc}
+use native.Mathlib.Nat.{not-suc-le-zero, add-zero, add-sub-cancel-left}
+use native.Mathlib.Numerals.{add-one, sub-one}
+use native.Mathlib.Omega.{arith}
+use borrow.Author.Tests.{eq-eqb, ne-eqb}
+use lib.Dec.{eqb}
+use lib.ListN.{length, getD, take, drop, length-drop, drop-of-length-le}
+use lib.Seq.{drop-cons}
+use Rattle.form.specs.Line.{firstForm, formCount}
+use Rattle.form.specs.declared.Due.{Due}
+use Rattle.form.specs.declared.Due.the-variants.{HeaderDue, WeightDue, StepDue}
+use Rattle.form.specs.declared.Header.the-variants.{Shape, Threads, Slots, Plain, Flag, Steps}
+use Rattle.form.specs.declared.Kind.{Kind}
+use Rattle.line.specs.Operand.{word, numberAt, spaced}
+use Rattle.line.specs.Refusal.{upToLF, lineAt, lineEnd}
+use Rattle.line.specs.Row.{formRow, orElse, findForm}
+use Rattle.line.specs.declared.Operand.{Operand}
+use Rattle.line.specs.declared.Operand.the-variants.{Good, NoForm}
+use Rattle.line.specs.declared.Row.{Row}
+use Rattle.line.specs.declared.Row.the-variants.{NotForm}
+use Rattle.number.proofs.Choice.{either}
+
+pub positive : (n : ℕ) → (n ≡ 0 → ⊥) → 0 < n
+positive n h = omega arith
+
+-- a word from its j-th byte on
+module _ (w s : List ℕ) (j at : ℕ) where
+  pub word-end : length w ≤ j → word (drop j w) s at ≡ Good 0 at
+  unfolding word
+  word-end h = rw (drop-of-length-le w {i = j} h)
+
+  pub word-zero : j < length w → getD w j 0 ≡ 0 → word (drop j w) s at ≡ Good 0 at
+  unfolding word
+  word-zero h e = rw (drop-cons w j 0 h, eq-eqb _ _ e)
+
+  pub word-other : j < length w → (getD w j 0 ≡ 0 → ⊥) → (getD s at 0 ≡ getD w j 0 → ⊥) → word (drop j w) s at ≡ NoForm at
+  unfolding word
+  word-other h e n = rw (drop-cons w j 0 h, ne-eqb _ _ e, ne-eqb _ _ n)
+
+  pub word-more : j < length w → (getD w j 0 ≡ 0 → ⊥) → getD s at 0 ≡ getD w j 0 → word (drop j w) s at ≡ word (drop (j + 1) w) s (at + 1)
+  unfolding word
+  word-more h e y = rw (drop-cons w j 0 h, ne-eqb _ _ e, eq-eqb _ _ y, add-one j)
+
+module _ (k : Kind) (s : List ℕ) (at : ℕ) where
+  pub spaced-yes : getD s at 0 ≡ 32 → spaced k s at ≡ numberAt k s (at + 1)
+  unfolding spaced
+  spaced-yes e = rw (eq-eqb _ _ e)
+
+  pub spaced-none : (getD s at 0 ≡ 32 → ⊥) → spaced k s at ≡ NoForm at
+  unfolding spaced
+  spaced-none e = rw (ne-eqb _ _ e)
+
+-- the rows from one on
+pub find-end : (n i far : ℕ) (s : List ℕ) (lead : Operand) → n ≡ 0 → findForm n i far s lead ≡ NotForm far
+unfolding findForm
+find-end n i far s lead e = rw e
+
+pub find-here : (n i far : ℕ) (s : List ℕ) (lead : Operand) (r : Row) → 0 < n → formRow i s lead ≡ r
+    → findForm n i far s lead ≡ orElse r far (λ m. findForm (n - 1) (i + 1) m s lead)
+unfolding findForm
+find-here zero i far s lead r h e = absurd (not-suc-le-zero h)
+find-here (suc n) i far s lead r h e = rw (e, sub-one)
+
+-- a line's end
+pub end-lf : (s : List ℕ) (i : ℕ) → i < length s → getD s i 0 ≡ 10 → lineEnd s i ≡ i
+unfolding lineEnd lineAt upToLF
+end-lf s i h e = rw (drop-cons s i 0 h, eq-eqb _ _ e) (add-zero i)
+
+pub end-more : (s : List ℕ) (i : ℕ) → i < length s → (getD s i 0 ≡ 10 → ⊥) → lineEnd s i ≡ lineEnd s (i + 1)
+unfolding lineEnd lineAt upToLF
+end-more s i h e = rw (drop-cons s i 0 h, ne-eqb _ _ e, add-one i) (omega arith)
+
+pub end-out : (s : List ℕ) (i : ℕ) → length s ≤ i → lineEnd s i ≡ i
+unfolding lineEnd lineAt upToLF
+end-out s i h = rw (drop-of-length-le s {i = i} h) (add-zero i)
+
+up-part : (l : List ℕ) → (take (length (upToLF l)) l ≡ upToLF l) × (length (upToLF l) ≤ length l)
+unfolding upToLF
+up-part [] = (refl, omega arith)
+up-part (b ∷ t) =
+    ⊎-elim
+    (λ (e : eqb b 10 ≡ true). rw e (refl, omega arith))
+    (λ (e : eqb b 10 ≡ false). rw e (ap (λ (r : List ℕ). b ∷ r) (up-part t .0), suc-le-suc (up-part t .1)))
+    (either (eqb b 10))
+
+-- the line is the part of the text from its place to its end
+pub line-part : (s : List ℕ) (at : ℕ) → take (lineEnd s at - at) (drop at s) ≡ lineAt s at
+unfolding lineEnd lineAt
+line-part s at = rw add-sub-cancel-left (up-part (drop at s) .0)
+
+pub end-in : (s : List ℕ) (at : ℕ) → at ≤ length s → (at ≤ lineEnd s at) × (lineEnd s at ≤ length s)
+unfolding lineEnd lineAt
+end-in s at h = (omega arith, omega (arith, up-part (drop at s) .1, length-drop at s))
+
+pub line-out : (s : List ℕ) (at : ℕ) → length s < at → lineAt s at ≡ []
+unfolding lineAt upToLF
+line-out s at h = rw (drop-of-length-le s {i = at} (omega arith))
+
+-- the rows of every line due are rows of the table
+pub rows-in : (d : Due) → firstForm d + formCount d ≤ 16
+rows-in (HeaderDue Shape) = omega arith
+rows-in (HeaderDue Threads) = omega arith
+rows-in (HeaderDue Slots) = omega arith
+rows-in (HeaderDue Plain) = omega arith
+rows-in (HeaderDue Flag) = omega arith
+rows-in (HeaderDue Steps) = omega arith
+rows-in WeightDue = omega arith
+rows-in StepDue = omega arith

@@ -1,0 +1,3 @@
+pub mod Operand
+pub mod Row
+pub mod Refusal
