@@ -1,3 +1,4 @@
 pub mod Operand
 pub mod Row
 pub mod Refusal
+pub mod Promise

@@ -1,5 +1,5 @@
 -- Laws of reading digits, numbers and weights, one for each outcome. Assumes nothing.
-use mathlib.Core.Path.{_≡_}
+use mathlib.Core.Path.{_≡_, refl, sym, _∙_}
 use mathlib.Core.Bool.{true, false}
 use mathlib.Core.List.{List, [], _∷_}
 use mathlib.Core.Logic.{⊎-elim}
@@ -7,11 +7,12 @@ use Prim.Native.Nat.{ℕ, zero, suc, _+_, _-_, _*_, _^_, _≤_, _<_}
 use native.Mathlib.Nat.{not-suc-le-zero, pow-suc, pow-succ', le-trans, mul-le-mul-right, mul-le-mul-left, mul-assoc, le-mul-of-pos-right, one-le-pow}
 use native.Mathlib.Numerals.{sub-one}
 use native.Mathlib.Omega.{arith}
-use borrow.Author.Tests.{leb-true, le-leb, lt-leb, eq-eqb, ne-eqb}
+use borrow.Author.Tests.{leb-true, eqb-true, eqb-false, le-leb, lt-leb, eq-eqb, ne-eqb}
 use lib.Dec.{leb, eqb, lit≤}
 use lib.ListN.{length, getD}
 use Rattle.number.proofs.Choice.{either, and-left, and-right}
 use Rattle.number.specs.Reading.{isDigit, digits, number, point, weight}
+use Rattle.number.specs.declared.Reading.{Reading}
 use Rattle.number.specs.declared.Reading.the-variants.{Got, Stopped}
 
 -- a byte that is not 0 stands inside
@@ -112,3 +113,17 @@ number-bound most s at w p e =
     (λ (z : eqb (getD s at 0) 48 ≡ true). let h : 0 ≡ w = cc (simp z at e) in omega (arith, one-le-pow most 10 (lit≤ tt), h))
     (λ (z : eqb (getD s at 0) 48 ≡ false). omega (arith, digits-bound most (most - 1) s at 0 w p (simp z at e)))
     (either (eqb (getD s at 0) 48))
+
+pub weight-bound : (s : List ℕ) (at w q : ℕ) → weight s at ≡ Got w q → w + 1 ≤ 10 ^ 10
+weight-bound s at w q e = go (number 7 s at) refl
+  where
+    go : (r : Reading) → number 7 s at ≡ r → w + 1 ≤ 10 ^ 10
+    go (Stopped p) n = let z : _≡_ {A = ℕ} 0 1 = cc (weight-bad s at p n) in absurd (omega arith)
+    go (Got v p) n =
+        ⊎-elim
+        (λ (z : eqb (getD s p 0) 46 ≡ true).
+        let b = digits-bound 3 0 s (p + 1) v w q (sym (weight-more s at v p n (eqb-true _ _ z)) ∙ e) in
+        omega (arith, b, number-bound 7 s at v p n))
+        (λ (z : eqb (getD s p 0) 46 ≡ false).
+        let y : _≡_ {A = ℕ} 0 1 = cc (weight-none s at v p n (eqb-false _ _ z)) in absurd (omega arith))
+        (either (eqb (getD s p 0) 46))

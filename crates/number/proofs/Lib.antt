@@ -5,3 +5,4 @@ pub mod Stores
 pub mod Standing
 pub mod OnlyTexts
 pub mod ReadBack
+pub mod Promise

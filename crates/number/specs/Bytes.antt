@@ -5,7 +5,7 @@ use Prim.Native.String.{String}
 use Prim.Native.String as text
 use mathlib.Core.Path.{_≡_}
 use mathlib.Core.List.{List, [], _∷_}
-use lib.ListN.{getD}
+use lib.ListN.{length, getD}
 
 abbrev pub bytes : String → List ℕ
 bytes text.[] = []
@@ -15,3 +15,8 @@ bytes (text._∷_ c s) = code c ∷ bytes s
 abbrev pub Stands : List ℕ → ℕ → List ℕ → Type 0
 Stands s at [] = Unit {0}
 Stands s at (b ∷ t) = (getD s at 0 ≡ b) × Stands s (at + 1) t
+
+-- a text that stands at a place, and the place after it
+pub record Here (s : List ℕ) (at : ℕ) (t : List ℕ) (p : ℕ) : Type 0 where
+  pub stands : Stands s at t
+  pub next : p ≡ at + length t

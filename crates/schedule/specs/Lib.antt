@@ -1,2 +1,3 @@
 pub mod Sections
 pub mod Schedule
+pub mod Promise

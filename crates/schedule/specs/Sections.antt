@@ -64,6 +64,16 @@ abbrev pub ended : List ℕ → Passed → Sections → Judged
 ended s (Past n p) found = cond (ltb p (length s)) (Refused (Extra p)) (Taken found)
 ended s (Stuck r) found = Refused r
 
+abbrev pub foundSections : Passed → Passed → Passed → Passed → Passed → Sections
+foundSections threads slots plain flag steps =
+    record {
+      threads = countOf threads;
+      slots = countOf slots;
+      plain = sectionOf plain;
+      flag = sectionOf flag;
+      steps = sectionOf steps;
+    }
+
 -- "`shape 2`, then `threads T` and `slots C`"; "`plain N`, then N lines, each a weight"; "`flag N`, then N lines, each a weight";
 -- "`steps N`, then N lines: thread, verb, operands"
 unfoldable pub sections : List ℕ → Judged
@@ -74,14 +84,7 @@ sections s =
     let plain = header Plain s slots in
     let flag = header Flag s (lines WeightDue s plain) in
     let steps = header Steps s (lines WeightDue s flag) in
-    ended s (lines StepDue s steps)
-    (record {
-      threads = countOf threads;
-      slots = countOf slots;
-      plain = sectionOf plain;
-      flag = sectionOf flag;
-      steps = sectionOf steps;
-    })
+    ended s (lines StepDue s steps) (foundSections threads slots plain flag steps)
 
 -- 1: "text longer than 65,536 bytes"
 unfoldable pub judged : List ℕ → Judged

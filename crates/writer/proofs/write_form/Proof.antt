@@ -1,0 +1,67 @@
+use Prim.Native.Nat.{_+_, _≤_}
+use native.Mathlib.Omega.{arith}
+use borrow.Author.Needs.{needs}
+use lib.ListN.{length}
+use denote.Ref.{now}
+use Rattle.form.specs.Text.{operandText, wordText, formText}
+use Rattle.number.proofs.Stores.{wrote-then}
+use Rattle.writer.proofs.Laws.{length-form}
+use Rattle.writer.proofs.write_form.Statement.{statement}
+use Rattle.writer.proofs.write_form.Tie as tie
+
+form-at-requires : tie.Need-form-at-requires
+form-at-requires c κs = search needs
+
+slice-aggregate-write-word : tie.Need-slice-aggregate-write-word
+slice-aggregate-write-word c = search needs
+
+-- the room, part by part of the row that was looked up
+roomy : (c : tie.After-form-at) → let s = c .before .before .args in let f = c .form-at .result in
+    s .at + (length (wordText (f .word)) + (length (operandText (f .a) (s .a)) + (length (operandText (f .b) (s .b)) + (length (operandText (f .c) (s .c)) + 1))))
+    ≤ length (now (s .buf))
+roomy c = rw (c .form-at .ensures) (rw length-form at (c .before .before .pre))
+
+write-word-requires : tie.Need-write-word-requires
+write-word-requires c κs = omega (arith, roomy (c .before .before .before))
+
+write-operand-requires : tie.Need-write-operand-requires
+write-operand-requires c κs = omega (arith, roomy (c .before .before .before .before .before .before .before))
+
+write-operand-requires-2 : tie.Need-write-operand-requires-2
+write-operand-requires-2 c κs = omega (arith, roomy (c .before .before .before .before .before .before .before .before .before .before .before))
+
+write-operand-requires-3 : tie.Need-write-operand-requires-3
+write-operand-requires-3 c κs =
+    let y = c .before .before .before in let x = y .before .before .before .before in let w = x .before .before .before .before in
+    omega (arith, roomy (w .before .before .before .before), w .write-word, x .write-operand, y .write-operand2)
+
+write-byte-requires : tie.Need-write-byte-requires
+write-byte-requires c κs =
+    let z = c .before .before .before in let y = z .before .before .before .before in let x = y .before .before .before .before in let w = x .before .before .before .before in
+    omega (arith, roomy (w .before .before .before .before), w .write-word, x .write-operand, y .write-operand2, z .write-operand3)
+
+same-length : tie.Need-same-length
+same-length c = search needs
+
+returns : tie.Need-returns
+unfolding formText
+returns c =
+    let z = c .before .before .before .before .before .before in let y = z .before .before .before .before in let x = y .before .before .before .before in let w = x .before .before .before .before in
+    rw (← w .before .before .before .before .form-at .ensures)
+    (wrote-then (w .write-word .ensures)
+    (wrote-then (x .write-operand .ensures)
+    (wrote-then (y .write-operand2 .ensures) (wrote-then (z .write-operand3 .ensures) (c .before .before .write-byte .ensures)))))
+
+pub write-form-spec : {M : Type 1} → statement M
+write-form-spec =
+    tie.close
+    (tie.spec
+    form-at-requires
+    slice-aggregate-write-word
+    write-word-requires
+    write-operand-requires
+    write-operand-requires-2
+    write-operand-requires-3
+    write-byte-requires
+    same-length
+    returns)
