@@ -6,3 +6,4 @@ pub mod Standing
 pub mod OnlyTexts
 pub mod ReadBack
 pub mod Promise
+pub mod Determined

@@ -1,3 +1,4 @@
 pub mod Sections
 pub mod Schedule
 pub mod Promise
+pub mod Starred

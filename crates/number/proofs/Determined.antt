@@ -1,0 +1,47 @@
+-- Any two results that a public contract allows are equal, and so is every lent byte afterwards. Assumes nothing.
+use mathlib.Core.Path.{_≡_, sym, _∙_}
+use denote.Ref.{now}
+use Rattle.number.proofs.byte_at.Reads as byte-at
+use Rattle.number.proofs.read_count.Reads as read-count
+use Rattle.number.proofs.read_weight.Reads as read-weight
+use Rattle.number.proofs.number_width.Reads as number-width
+use Rattle.number.proofs.weight_width.Reads as weight-width
+use Rattle.number.proofs.has_room.Reads as has-room
+use Rattle.number.proofs.put_byte.Reads as put-byte
+use Rattle.number.proofs.put_number.Reads as put-number
+use Rattle.number.proofs.put_weight.Reads as put-weight
+
+-- two values that are each equal to one and the same
+pub determined : {A : Type 0} {x y z : A} → x ≡ z → y ≡ z → x ≡ y
+determined p q = p ∙ sym q
+
+-- a contract that fixes the result
+abbrev pub OneResult : {K : Type 0} {A R E : K → Type 0} → ((k : K) → A k → R k → E k → Type 0) → Type 0
+OneResult {K} {A} {R} {E} post = (k : K) (a : A k) (x y : R k) (e f : E k) → post k a x e → post k a y f → x ≡ y
+
+pub byte-at-determined : OneResult byte-at.Post
+byte-at-determined κs a x y e f = determined
+
+pub read-count-determined : OneResult read-count.Post
+read-count-determined κs a x y e f = determined
+
+pub read-weight-determined : OneResult read-weight.Post
+read-weight-determined κs a x y e f = determined
+
+pub number-width-determined : OneResult number-width.Post
+number-width-determined κs a x y e f = determined
+
+pub weight-width-determined : OneResult weight-width.Post
+weight-width-determined κs a x y e f = determined
+
+pub has-room-determined : OneResult has-room.Post
+has-room-determined κs a x y e f = determined
+
+pub put-byte-determined : (κs : _) (a : _) (x y : _) (e f : _) → put-byte.Post κs a x e → put-byte.Post κs a y f → (x ≡ y) × (now (e .0) ≡ now (f .0))
+put-byte-determined κs a x y e f p q = (determined (p .0) (q .0), determined (p .1) (q .1))
+
+pub put-number-determined : (κs : _) (a : _) (x y : _) (e f : _) → put-number.Post κs a x e → put-number.Post κs a y f → (x ≡ y) × (now (e .0) ≡ now (f .0))
+put-number-determined κs a x y e f p q = (determined (p .0) (q .0), determined (p .1) (q .1))
+
+pub put-weight-determined : (κs : _) (a : _) (x y : _) (e f : _) → put-weight.Post κs a x e → put-weight.Post κs a y f → (x ≡ y) × (now (e .0) ≡ now (f .0))
+put-weight-determined κs a x y e f p q = (determined (p .0) (q .0), determined (p .1) (q .1))
