@@ -54,7 +54,7 @@ wrote-then {l} {m} {k} {at} {r} {q} {a} {b} x y =
 pub wrote-length : {l m : List ℕ} {at r : ℕ} {a : List ℕ} → Wrote l at a r m → length m ≡ length l
 wrote-length {l} {m} {at} {r} {a} x = ap length (x .list) ∙ length-sets l at a
 
-below-sets : (t l : List ℕ) (i k : ℕ) → k < i → getD (sets l i t) k 0 ≡ getD l k 0
+pub below-sets : (t l : List ℕ) (i k : ℕ) → k < i → getD (sets l i t) k 0 ≡ getD l k 0
 below-sets [] l i k h = refl
 below-sets (b ∷ t) l i k h = below-sets t (set l i b) (suc i) k (omega arith) ∙ getD-set-other l i k b 0 (λ e. omega arith)
 

@@ -1,0 +1,10 @@
+use Rattle.schedule.proofs.OnlyTexts.{schedule-only-text}
+use Rattle.schedule.proofs.ReadBack.{schedule-read-back}
+use Rattle.promises.proofs.schedules_have_one_text.Statement.{statement}
+use Rattle.promises.proofs.schedules_have_one_text.Tie as tie
+
+returns : tie.Need-returns
+returns c = (schedule-read-back, schedule-only-text)
+
+pub schedules-have-one-text-spec : {M : Type 1} → statement M
+schedules-have-one-text-spec = tie.close (tie.spec returns)

@@ -1,0 +1,29 @@
+-- What is promised of writing a line into a lent buffer. Assumes nothing.
+use Prim.Native.Nat.{ℕ, _+_, _≤_, _<_}
+use mathlib.Core.Path.{_≡_}
+use mathlib.Core.List.{List}
+use mathlib.Core.Logic.{_⊎_}
+use lib.ListN.{length, getD}
+use Rattle.form.specs.Line.{dueOf}
+use Rattle.form.specs.Text.{lineText}
+use Rattle.form.specs.declared.Line.{Line}
+use Rattle.line.specs.Row.{readLine}
+use Rattle.line.specs.declared.LineRead.the-variants.{Took}
+use Rattle.writer.specs.Writer.{lineWritten, linePlaced, writtenNumber}
+use Rattle.writer.specs.declared.LineWritten.the-variants.{Upto}
+
+-- reading what was written gives back the line that was written, up to the place after it
+abbrev pub WrittenBack : Type 0
+WrittenBack =
+    (l : List ℕ) (at : ℕ) (x : Line) (p : ℕ) → lineWritten l at x ≡ Upto p → readLine (dueOf x) (linePlaced l at x) at ≡ Took x p
+
+-- "a written one changes only its own bytes"
+abbrev pub OnlyItsBytes : Type 0
+OnlyItsBytes =
+    (l : List ℕ) (at : ℕ) (x : Line)
+    → (length (linePlaced l at x) ≡ length l)
+    × ((k : ℕ) → (k < at) ⊎ (at + length (lineText x) ≤ k) → getD (linePlaced l at x) k 0 ≡ getD l k 0)
+
+-- "A refused line leaves the buffer untouched"
+abbrev pub RefusedKeeps : Type 0
+RefusedKeeps = (l : List ℕ) (at : ℕ) (x : Line) → 0 < writtenNumber (lineWritten l at x) → linePlaced l at x ≡ l
