@@ -45,17 +45,19 @@ operandAt Nothing s at = Good 0 at
 operandAt (Count low high) s at = spaced (Count low high) s at
 operandAt Thousandths s at = spaced Thousandths s at
 
--- what follows a field; a wrong form goes on
+-- each field begins where the one before it ended, in its range or not; a wrong form goes on
+abbrev pub onward : Operand → (ℕ → Operand) → Operand
+onward (Good v p) go = go p
+onward (OutOfRange n p) go = go p
+onward (NoForm x) go = NoForm x
+
 abbrev pub afterOperand : List ℕ → Operand → Kind → Operand
-afterOperand s (Good v p) kind = operandAt kind s p
-afterOperand s (OutOfRange n p) kind = operandAt kind s p
-afterOperand s (NoForm x) kind = NoForm x
+afterOperand s before kind = onward before (λ p. operandAt kind s p)
 
 abbrev pub afterWord : List ℕ → Operand → List ℕ → Operand
-afterWord s (Good v p) w = word w s p
-afterWord s (OutOfRange n p) w = word w s p
-afterWord s (NoForm x) w = NoForm x
+afterWord s before w = onward before (λ p. word w s p)
 
+-- a space, which is passed; the number before it stays
 abbrev pub spaceAfter : List ℕ → Operand → Operand
 spaceAfter s (Good v p) = cond (eqb (getD s p 0) 32) (Good v (p + 1)) (NoForm p)
 spaceAfter s (OutOfRange n p) = cond (eqb (getD s p 0) 32) (OutOfRange n (p + 1)) (NoForm p)
