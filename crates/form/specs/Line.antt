@@ -6,7 +6,7 @@ use lib.ListN.{getD}
 use Rattle.step.specs.declared.Step.{Step}
 use Rattle.step.specs.declared.Verb.{Verb}
 use Rattle.step.specs.declared.Verb.the-variants.{Get, Set, Load, Store, Swap, Put, Take, Go, GoAt}
-use Rattle.form.specs.Table.{formAt, thread}
+use Rattle.form.specs.Table.{kindA, kindB, kindC, thread}
 use Rattle.form.specs.Range.{inRange}
 use Rattle.form.specs.declared.Kind.{Kind}
 use Rattle.form.specs.declared.Kind.the-variants.{Nothing, Thousandths}
@@ -85,8 +85,8 @@ lineOf StepDue f = StepLine (record { thread = f .lead; verb = verbOf (f .form) 
 unfoldable pub fieldsInRange : Kind → Fields → Bool
 fieldsInRange lead f =
     inRange lead (f .lead)
-    && (inRange (formAt (f .form) .a) (f .a)
-    && (inRange (formAt (f .form) .b) (f .b) && inRange (formAt (f .form) .c) (f .c)))
+    && (inRange (kindA (f .form)) (f .a)
+    && (inRange (kindB (f .form)) (f .b) && inRange (kindC (f .form)) (f .c)))
 
 unfoldable pub lineInRange : Line → Bool
 lineInRange x = fieldsInRange (leadKind (dueOf x)) (fieldsOf x)

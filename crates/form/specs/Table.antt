@@ -10,7 +10,7 @@ use Rattle.form.specs.declared.Kind.the-variants.{Nothing, Count, Thousa
 
 -- a word with the kinds of its operands; the word is filled up with 0
 abbrev pub row : String → Kind → Kind → Kind → Form
-row word a b c = record { word = take 7 (bytes word ++ replicate 7 0); a = a; b = b; c = c }
+row word a b c = (take 7 (bytes word ++ replicate 7 0), a, b, c)
 
 -- "in a step line the reader takes threads 1 to 8, cells 1 to 16 and flags 1 to 8 under any shape"
 abbrev pub thread : Kind
@@ -56,3 +56,16 @@ forms =
 
 unfoldable pub formAt : ℕ → Form
 formAt i = getD forms i bare
+
+-- a row's word and the kinds of its operands
+abbrev pub wordOf : ℕ → List ℕ
+wordOf i = formAt i .0
+
+abbrev pub kindA : ℕ → Kind
+kindA i = formAt i .1
+
+abbrev pub kindB : ℕ → Kind
+kindB i = formAt i .2
+
+abbrev pub kindC : ℕ → Kind
+kindC i = formAt i .3

@@ -4,7 +4,7 @@ use mathlib.Core.List.{List, [], _∷_, _++_}
 use mathlib.Core.Bool.{cond}
 use lib.Dec.{eqb}
 use Rattle.number.specs.Text.{numberText, weightText}
-use Rattle.form.specs.Table.{formAt}
+use Rattle.form.specs.Table.{wordOf, kindA, kindB, kindC}
 use Rattle.form.specs.Line.{leadKind, dueOf, fieldsOf}
 use Rattle.form.specs.declared.Kind.{Kind}
 use Rattle.form.specs.declared.Kind.the-variants.{Nothing, Count, Thousandths}
@@ -37,8 +37,8 @@ wordText (b ∷ w) = cond (eqb b 0) [] (b ∷ wordText w)
 -- a row's word and operands; "every line ends with one LF"
 unfoldable pub formText : ℕ → ℕ → ℕ → ℕ → List ℕ
 formText form a b c =
-    wordText (formAt form .word)
-    ++ (operandText (formAt form .a) a ++ (operandText (formAt form .b) b ++ (operandText (formAt form .c) c ++ (10 ∷ []))))
+    wordText (wordOf form)
+    ++ (operandText (kindA form) a ++ (operandText (kindB form) b ++ (operandText (kindC form) c ++ (10 ∷ []))))
 
 unfoldable pub fieldsText : Kind → Fields → List ℕ
 fieldsText lead f = leadText lead (f .lead) ++ formText (f .form) (f .a) (f .b) (f .c)

@@ -9,17 +9,12 @@ ghost use Rattle.form.specs.Line.{leadKind, headerForm, stepFields, firs
 // What an operand is: nothing, a number without a point in a range, or a weight or stamp.
 pub enum Kind {
     Nothing,
-    Count { low: u32, high: u32 },
+    Count(u32, u32),
     Thousandths,
 }
 
 // A row of the table: a word, filled up with 0, and the kinds of its operands.
-pub struct Form {
-    pub word: [u8; 7],
-    pub a: Kind,
-    pub b: Kind,
-    pub c: Kind,
-}
+pub struct Form(pub [u8; 7], pub Kind, pub Kind, pub Kind);
 
 // The header lines.
 pub enum Header {
@@ -62,9 +57,9 @@ pub enum Limited {
 
 const NOTHING: Kind = Kind::Nothing;
 
-const CELL: Kind = Kind::Count { low: 1, high: 16 };
+const CELL: Kind = Kind::Count(1, 16);
 
-const FLAG: Kind = Kind::Count { low: 1, high: 8 };
+const FLAG: Kind = Kind::Count(1, 8);
 
 const STAMP: Kind = Kind::Thousandths;
 
@@ -72,102 +67,22 @@ const VALUE: Kind = Kind::Thousandths;
 
 // The nine forms of a step after its thread, the six header lines, and what follows the weight of a weight line.
 const FORMS: [Form; 16] = [
-    Form {
-        word: *b"get\0\0\0\0",
-        a: CELL,
-        b: STAMP,
-        c: NOTHING,
-    },
-    Form {
-        word: *b"set\0\0\0\0",
-        a: CELL,
-        b: VALUE,
-        c: STAMP,
-    },
-    Form {
-        word: *b"load\0\0\0",
-        a: FLAG,
-        b: NOTHING,
-        c: NOTHING,
-    },
-    Form {
-        word: *b"store\0\0",
-        a: FLAG,
-        b: VALUE,
-        c: NOTHING,
-    },
-    Form {
-        word: *b"swap\0\0\0",
-        a: FLAG,
-        b: VALUE,
-        c: VALUE,
-    },
-    Form {
-        word: *b"put\0\0\0\0",
-        a: VALUE,
-        b: NOTHING,
-        c: NOTHING,
-    },
-    Form {
-        word: *b"take\0\0\0",
-        a: NOTHING,
-        b: NOTHING,
-        c: NOTHING,
-    },
-    Form {
-        word: *b"go\0\0\0\0\0",
-        a: NOTHING,
-        b: NOTHING,
-        c: NOTHING,
-    },
-    Form {
-        word: *b"go\0\0\0\0\0",
-        a: STAMP,
-        b: NOTHING,
-        c: NOTHING,
-    },
-    Form {
-        word: *b"shape\0\0",
-        a: Kind::Count { low: 2, high: 2 },
-        b: NOTHING,
-        c: NOTHING,
-    },
-    Form {
-        word: *b"threads",
-        a: Kind::Count { low: 1, high: 8 },
-        b: NOTHING,
-        c: NOTHING,
-    },
-    Form {
-        word: *b"slots\0\0",
-        a: Kind::Count { low: 1, high: 16 },
-        b: NOTHING,
-        c: NOTHING,
-    },
-    Form {
-        word: *b"plain\0\0",
-        a: Kind::Count { low: 0, high: 16 },
-        b: NOTHING,
-        c: NOTHING,
-    },
-    Form {
-        word: *b"flag\0\0\0",
-        a: Kind::Count { low: 0, high: 8 },
-        b: NOTHING,
-        c: NOTHING,
-    },
-    Form {
-        word: *b"steps\0\0",
-        a: Kind::Count { low: 0, high: 4096 },
-        b: NOTHING,
-        c: NOTHING,
-    },
-    Form {
-        word: *b"\0\0\0\0\0\0\0",
-        a: NOTHING,
-        b: NOTHING,
-        c: NOTHING,
-    },
+    Form(*b"get\0\0\0\0", CELL, STAMP, NOTHING),
+    Form(*b"set\0\0\0\0", CELL, VALUE, STAMP),
+    Form(*b"load\0\0\0", FLAG, NOTHING, NOTHING),
+    Form(*b"store\0\0", FLAG, VALUE, NOTHING),
+    Form(*b"swap\0\0\0", FLAG, VALUE, VALUE),
+    Form(*b"put\0\0\0\0", VALUE, NOTHING, NOTHING),
+    Form(*b"take\0\0\0", NOTHING, NOTHING, NOTHING),
+    Form(*b"go\0\0\0\0\0", NOTHING, NOTHING, NOTHING),
+    Form(*b"go\0\0\0\0\0", STAMP, NOTHING, NOTHING),
+    Form(*b"shape\0\0", Kind::Count(2, 2), NOTHING, NOTHING),
+    Form(*b"threads", Kind::Count(1, 8), NOTHING, NOTHING),
+    Form(*b"slots\0\0", Kind::Count(1, 16), NOTHING, NOTHING),
+    Form(*b"plain\0\0", Kind::Count(0, 16), NOTHING, NOTHING),
+    Form(*b"flag\0\0\0", Kind::Count(0, 8), NOTHING, NOTHING),
+    Form(*b"steps\0\0", Kind::Count(0, 4096), NOTHING, NOTHING),
+    Form(*b"\0\0\0\0\0\0\0", NOTHING, NOTHING, NOTHING),
 ];
 
 // A row of the table; past its end the last one.
@@ -189,7 +104,7 @@ pub fn limit(kind: Kind, v: u64) -> Limited
                 Limited::Outside
             }
         }
-        Kind::Count { low, high } => {
+        Kind::Count(low, high) => {
             if v < low as u64 {
                 return Limited::Outside;
             }
@@ -216,7 +131,7 @@ pub fn lead_kind(due: Due) -> Kind
     match due {
         Due::HeaderDue(_) => Kind::Nothing,
         Due::WeightDue => Kind::Thousandths,
-        Due::StepDue => Kind::Count { low: 1, high: 8 },
+        Due::StepDue => Kind::Count(1, 8),
     }
 }
 

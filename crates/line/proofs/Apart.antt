@@ -9,7 +9,7 @@ use native.Mathlib.Omega.{arith}
 use borrow.Author.Tests.{eqb-true, eq-eqb}
 use lib.Dec.{leb, eqb}
 use lib.ListN.{length, getD}
-use Rattle.form.specs.Table.{forms, formAt}
+use Rattle.form.specs.Table.{forms, formAt, wordOf, kindA, kindB, kindC}
 use Rattle.form.specs.Text.{operandText, wordText, formText}
 use Rattle.form.specs.declared.Kind.{Kind}
 use Rattle.form.specs.declared.Kind.the-variants.{Nothing, Count, Thousandths}
@@ -53,7 +53,7 @@ follow (Count low high) = 32
 follow Thousandths = 32
 
 unfoldable pub head : ℕ → List ℕ
-head i = wordText (formAt i .word) ++ (follow (formAt i .a) ∷ [])
+head i = wordText (wordOf i) ++ (follow (kindA i) ∷ [])
 
 apart : ℕ → Bool
 apart i = allBelow i (λ j. differ (head j) (head i))
@@ -71,9 +71,9 @@ nothing Thousandths = false
 abbrev packed : Kind → Kind → Kind → Bool
 packed a b c = cond (nothing a) (nothing b && nothing c) true
 
-row-packed : (i : ℕ) → i < 16 → packed (formAt i .a) (formAt i .b) (formAt i .c) ≡ true
+row-packed : (i : ℕ) → i < 16 → packed (kindA i) (kindB i) (kindC i) ≡ true
 unfolding formAt forms
-row-packed = below-all 16 (λ i. packed (formAt i .a) (formAt i .b) (formAt i .c)) refl
+row-packed = below-all 16 (λ i. packed (kindA i) (kindB i) (kindC i)) refl
 
 -- a number without a point has at most 4 digits
 abbrev pub short : Kind → Bool
@@ -81,17 +81,17 @@ short Nothing = true
 short (Count low high) = leb high 9999
 short Thousandths = true
 
-pub short-a : (i : ℕ) → i < 16 → short (formAt i .a) ≡ true
+pub short-a : (i : ℕ) → i < 16 → short (kindA i) ≡ true
 unfolding formAt forms
-short-a = below-all 16 (λ i. short (formAt i .a)) refl
+short-a = below-all 16 (λ i. short (kindA i)) refl
 
-pub short-b : (i : ℕ) → i < 16 → short (formAt i .b) ≡ true
+pub short-b : (i : ℕ) → i < 16 → short (kindB i) ≡ true
 unfolding formAt forms
-short-b = below-all 16 (λ i. short (formAt i .b)) refl
+short-b = below-all 16 (λ i. short (kindB i)) refl
 
-pub short-c : (i : ℕ) → i < 16 → short (formAt i .c) ≡ true
+pub short-c : (i : ℕ) → i < 16 → short (kindC i) ≡ true
 unfolding formAt forms
-short-c = below-all 16 (λ i. short (formAt i .c)) refl
+short-c = below-all 16 (λ i. short (kindC i)) refl
 
 is-nothing : (k : Kind) → nothing k ≡ true → k ≡ Nothing
 is-nothing Nothing e = refl
@@ -113,10 +113,10 @@ text-follow Thousandths j k a b c s p e h = h .0
 pub text-head : (i : ℕ) (s : List ℕ) (p a b c : ℕ) → i < 16 → Stands s p (formText i a b c) → Stands s p (head i)
 unfolding head formText
 text-head i s p a b c l h =
-    let w = wordText (formAt i .word) in
-    let rest = operandText (formAt i .a) a ++ (operandText (formAt i .b) b ++ (operandText (formAt i .c) c ++ (10 ∷ []))) in
-    stands-append s p w (follow (formAt i .a) ∷ []) (stands-left s p w rest h) (
-      text-follow (formAt i .a) (formAt i .b) (formAt i .c) a b c s (p + length w)
+    let w = wordText (wordOf i) in
+    let rest = operandText (kindA i) a ++ (operandText (kindB i) b ++ (operandText (kindC i) c ++ (10 ∷ []))) in
+    stands-append s p w (follow (kindA i) ∷ []) (stands-left s p w rest h) (
+      text-follow (kindA i) (kindB i) (kindC i) a b c s (p + length w)
           (row-packed i l) (stands-right s p w rest h),
       tt,
     )
@@ -176,11 +176,11 @@ fits-follow i j k s n l w e g =
 fits-head : (i : ℕ) (s : List ℕ) (l : Operand) → i < 16 → Fits (formRow i s l) → Stands s (placeIn l) (head i)
 unfolding formRow head
 fits-head i s l h g =
-    let w = wordText (formAt i .word) in
-    let m = afterWord s l (formAt i .word) in
-    let f = fits-follow (formAt i .a) (formAt i .b) (formAt i .c) s i l m (row-packed i h) g in
-    let here = after-word s l (formAt i .word) (f .0) in
-    stands-append s (placeIn l) w (follow (formAt i .a) ∷ []) (here .stands) (rw (← here .next) (f .1, tt))
+    let w = wordText (wordOf i) in
+    let m = afterWord s l (wordOf i) in
+    let f = fits-follow (kindA i) (kindB i) (kindC i) s i l m (row-packed i h) g in
+    let here = after-word s l (wordOf i) (f .0) in
+    stands-append s (placeIn l) w (follow (kindA i) ∷ []) (here .stands) (rw (← here .next) (f .1, tt))
 
 -- so two rows that begin at one place are one
 pub one-row : (i j : ℕ) (s : List ℕ) (p : ℕ) → i < 16 → j < 16 → Stands s p (head i) → Stands s p (head j) → i ≡ j

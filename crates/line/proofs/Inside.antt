@@ -5,7 +5,7 @@ use Prim.Native.Nat.{ℕ, _+_, _≤_}
 use native.Mathlib.Omega.{arith}
 use lib.ListN.{length, getD, length-append}
 use Rattle.form.specs.Line.{leadKind, dueOf, fieldsOf}
-use Rattle.form.specs.Table.{formAt}
+use Rattle.form.specs.Table.{wordOf, kindA, kindB, kindC}
 use Rattle.form.specs.Text.{operandText, leadText, wordText, formText, fieldsText, lineText}
 use Rattle.form.specs.declared.Line.{Line}
 use Rattle.number.proofs.Digits.{inside}
@@ -15,8 +15,8 @@ use Rattle.number.specs.Bytes.{Stands}
 form-inside : (s : List ℕ) (at i a b c : ℕ) → Stands s at (formText i a b c) → at + length (formText i a b c) ≤ length s
 unfolding formText
 form-inside s at i a b c h =
-    let tw = wordText (formAt i .word) in
-    let ta = operandText (formAt i .a) a in let tb = operandText (formAt i .b) b in let tc = operandText (formAt i .c) c in
+    let tw = wordText (wordOf i) in
+    let ta = operandText (kindA i) a in let tb = operandText (kindB i) b in let tc = operandText (kindC i) c in
     let rc = tc ++ (10 ∷ []) in let rb = tb ++ rc in let ra = ta ++ rb in
     let p = at + length tw in let q = p + length ta in let r = q + length tb in
     let hc = stands-right s q tb rc (stands-right s p ta rb (stands-right s at tw ra h)) in

@@ -6,7 +6,7 @@ use native.Mathlib.Omega.{arith}
 use borrow.Author.Tests.{eqb-true}
 use Rattle.form.specs.Line.{leadKind, headerForm, firstForm, formCount, dueOf, fields, stepFields, fieldsOf, verbOf, lineOf, fieldsInRange}
 use Rattle.form.specs.Range.{inRange}
-use Rattle.form.specs.Table.{thread, forms, formAt}
+use Rattle.form.specs.Table.{thread, forms, formAt, kindA, kindB, kindC}
 use Rattle.form.specs.declared.Due.{Due}
 use Rattle.form.specs.declared.Due.the-variants.{HeaderDue, WeightDue, StepDue}
 use Rattle.form.specs.declared.Fields.{Fields}
@@ -23,17 +23,17 @@ use Rattle.step.specs.declared.Verb.the-variants.{Get, Set, Load, Store, Swap, 
 -- each number in the range of its kind
 pub record Ranged (k : Kind) (f : Fields) : Type 0 where
   pub lead : inRange k (f .lead) ≡ true
-  pub a : inRange (formAt (f .form) .a) (f .a) ≡ true
-  pub b : inRange (formAt (f .form) .b) (f .b) ≡ true
-  pub c : inRange (formAt (f .form) .c) (f .c) ≡ true
+  pub a : inRange (kindA (f .form)) (f .a) ≡ true
+  pub b : inRange (kindB (f .form)) (f .b) ≡ true
+  pub c : inRange (kindC (f .form)) (f .c) ≡ true
 
 pub ranged : (k : Kind) (f : Fields) → fieldsInRange k f ≡ true → Ranged k f
 unfolding fieldsInRange
 ranged k f e =
     let x = inRange k (f .lead) in
-    let a = inRange (formAt (f .form) .a) (f .a) in
-    let b = inRange (formAt (f .form) .b) (f .b) in
-    let c = inRange (formAt (f .form) .c) (f .c) in
+    let a = inRange (kindA (f .form)) (f .a) in
+    let b = inRange (kindB (f .form)) (f .b) in
+    let c = inRange (kindC (f .form)) (f .c) in
     let abc = and-right x (a && (b && c)) e in
     let bc = and-right a (b && c) abc in
     record { lead = and-left x (a && (b && c)) e; a = and-left a (b && c) abc; b = and-left b c bc; c = and-right b c bc }

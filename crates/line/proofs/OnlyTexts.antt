@@ -9,7 +9,7 @@ use borrow.Author.Tests.{eqb-true}
 use lib.Dec.{eqb}
 use lib.ListN.{getD}
 use Rattle.form.specs.Line.{leadKind, firstForm, formCount, dueOf, fieldsOf, lineOf, lineInRange}
-use Rattle.form.specs.Table.{formAt}
+use Rattle.form.specs.Table.{wordOf, kindA, kindB, kindC}
 use Rattle.form.specs.Text.{formText, fieldsText, lineText}
 use Rattle.form.specs.declared.Fields.{Fields}
 use Rattle.form.specs.declared.Kind.{Kind}
@@ -65,20 +65,20 @@ row-is : (k : Kind) (i : ℕ) (s : List ℕ) (at : ℕ) (f : Fields) (n : ℕ) �
 unfolding formRow fieldsText formText
 row-is k i s at f n e =
     let l = leadAt k s at in
-    let w = afterWord s l (formAt i .word) in
-    let a = afterOperand s w (formAt i .a) in
-    let b = afterOperand s a (formAt i .b) in
-    let c = afterOperand s b (formAt i .c) in
+    let w = afterWord s l (wordOf i) in
+    let a = afterOperand s w (kindA i) in
+    let b = afterOperand s a (kindB i) in
+    let c = afterOperand s b (kindC i) in
     let end = end-is s i l a b c (rw e tt) in
     let ol = in-order l _ f n (sym (end .2) ∙ e) in
     let oa = in-order a _ f n (ol .2) in
     let ob = in-order b _ f n (oa .2) in
     let oc = in-order c _ f n (ob .2) in
     let hl = lead-is k s at (ol .0) (placeIn l) (ol .1) in
-    let ha = after-is s w (formAt i .a) (oa .0) (placeIn a) (oa .1) in
-    let hb = after-is s a (formAt i .b) (ob .0) (placeIn b) (ob .1) in
-    let hc = after-is s b (formAt i .c) (oc .0) (placeIn c) (oc .1) in
-    let hw = after-word s l (formAt i .word) (ha .0) in
+    let ha = after-is s w (kindA i) (oa .0) (placeIn a) (oa .1) in
+    let hb = after-is s a (kindB i) (ob .0) (placeIn b) (ob .1) in
+    let hc = after-is s b (kindC i) (oc .0) (placeIn c) (oc .1) in
+    let hw = after-word s l (wordOf i) (ha .0) in
     filled-as (cc (oc .2)) (cc (oc .2))
     (record {
       here = here-then (hl .0) (here-then hw (here-then (ha .1) (here-then (hb .1) (here-then (hc .1) (end .1)))));

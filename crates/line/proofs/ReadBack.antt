@@ -12,7 +12,7 @@ use lib.ListN.{length, getD, length-append}
 use Rattle.form.proofs.Range.{limited-in}
 use Rattle.form.specs.Line.{leadKind, firstForm, formCount, dueOf, fields, fieldsOf, lineInRange}
 use Rattle.form.specs.Range.{most, inRange}
-use Rattle.form.specs.Table.{formAt}
+use Rattle.form.specs.Table.{wordOf, kindA, kindB, kindC}
 use Rattle.form.specs.Text.{operandText, leadText, wordText, formText, fieldsText, lineText}
 use Rattle.form.specs.declared.Due.{Due}
 use Rattle.form.specs.declared.Due.the-variants.{HeaderDue, WeightDue, StepDue}
@@ -129,7 +129,7 @@ row-reads : (lead : Kind) (f : Fields) (s : List ℕ) (at : ℕ) → f .form < 1
 unfolding formRow formText
 row-reads lead f s at n rg h =
     let i = f .form in
-    let w = formAt i .word in let ka = formAt i .a in let kb = formAt i .b in let kc = formAt i .c in
+    let w = wordOf i in let ka = kindA i in let kb = kindB i in let kc = kindC i in
     let tw = wordText w in
     let ta = operandText ka (f .a) in let tb = operandText kb (f .b) in let tc = operandText kc (f .c) in
     let p = at + length tw in let q = p + length ta in let r = q + length tb in let e = r + length tc in

@@ -6,7 +6,7 @@ use lib.ListN.{getD}
 use lib.Dec.{eqb}
 use Rattle.number.specs.declared.Reading.{Reading}
 use Rattle.number.specs.declared.Reading.the-variants.{Got, Stopped}
-use Rattle.form.specs.Table.{formAt}
+use Rattle.form.specs.Table.{wordOf, kindA, kindB, kindC}
 use Rattle.form.specs.Line.{leadKind, firstForm, formCount, fields, lineOf}
 use Rattle.form.specs.declared.Due.{Due}
 use Rattle.line.specs.Operand.{afterWord, afterOperand, leadAt}
@@ -47,9 +47,9 @@ closed s form lead a b c = finish form lead a b c (endAfter s c)
 -- a line held against a row of the table: its lead, the row's word and operands, the LF
 unfoldable pub formRow : ℕ → List ℕ → Operand → Row
 formRow form s lead =
-    let a = afterOperand s (afterWord s lead (formAt form .word)) (formAt form .a) in
-    let b = afterOperand s a (formAt form .b) in
-    let c = afterOperand s b (formAt form .c) in
+    let a = afterOperand s (afterWord s lead (wordOf form)) (kindA form) in
+    let b = afterOperand s a (kindB form) in
+    let c = afterOperand s b (kindC form) in
     closed s form lead a b c
 
 -- the first of so many rows that the line's form fits, or the farthest place that one of them came to

@@ -82,8 +82,8 @@ fn read_kind(text: &[u8], at: usize, kind: Kind) -> Operand
 {
     match kind {
         Kind::Nothing => Operand::Good(0, at),
-        Kind::Count { low, high } => judge_number(
-            Kind::Count { low, high },
+        Kind::Count(low, high) => judge_number(
+            Kind::Count(low, high),
             at,
             number::read_count(text, at),
         ),
@@ -97,7 +97,7 @@ fn read_operand(text: &[u8], at: usize, kind: Kind) -> Operand
 {
     match kind {
         Kind::Nothing => Operand::Good(0, at),
-        Kind::Count { low, high } => read_spaced(text, at, Kind::Count { low, high }),
+        Kind::Count(low, high) => read_spaced(text, at, Kind::Count(low, high)),
         Kind::Thousandths => read_spaced(text, at, Kind::Thousandths),
     }
 }
@@ -163,10 +163,7 @@ fn read_lead(text: &[u8], at: usize, kind: Kind) -> Operand
 {
     match kind {
         Kind::Nothing => Operand::Good(0, at),
-        Kind::Count { low, high } => then_space(
-            text,
-            read_kind(text, at, Kind::Count { low, high }),
-        ),
+        Kind::Count(low, high) => then_space(text, read_kind(text, at, Kind::Count(low, high))),
         Kind::Thousandths => read_kind(text, at, Kind::Thousandths),
     }
 }
@@ -239,13 +236,13 @@ fn read_form(text: &[u8], lead: Operand, form: usize) -> Row
     ensures { λ r. ⌜ r ≡ formRow form (now (text .entry)) lead ⌝ }
 {
     let f = form::form_at(form);
-    let w = f.word;
+    let w = f.0;
     let v = then_word(text, lead, &w);
-    let ka = f.a;
+    let ka = f.1;
     let a = then_operand(text, v, ka);
-    let kb = f.b;
+    let kb = f.2;
     let b = then_operand(text, a, kb);
-    let kc = f.c;
+    let kc = f.3;
     let c = then_operand(text, b, kc);
     close(text, form, lead, a, b, c)
 }

@@ -11,7 +11,7 @@ use lib.Dec.{eqb}
 use lib.ListN.{length, getD, drop, replicate, length-append, drop-of-length-le, List·getD-map}
 use lib.Seq.{drop-cons}
 use Rattle.form.specs.Range.{inRange, limited}
-use Rattle.form.specs.Table.{bare, forms, formAt}
+use Rattle.form.specs.Table.{bare, forms, formAt, wordOf, kindA, kindB, kindC}
 use Rattle.form.specs.Text.{operandText, leadText, wordText, formText}
 use Rattle.form.specs.declared.Form.{Form}
 use Rattle.form.specs.declared.Kind.{Kind}
@@ -88,7 +88,7 @@ word-short (b ∷ w) =
     (either (eqb b 0))
 
 pub length-form : (i a b c : ℕ) → length (formText i a b c)
-    ≡ length (wordText (formAt i .word)) + (length (operandText (formAt i .a) a) + (length (operandText (formAt i .b) b) + (length (operandText (formAt i .c) c) + 1)))
+    ≡ length (wordText (wordOf i)) + (length (operandText (kindA i) a) + (length (operandText (kindB i) b) + (length (operandText (kindC i) c) + 1)))
 unfolding formText
 length-form i a b c = simp length-append
 
@@ -97,20 +97,20 @@ all-same zero i v = refl
 all-same (suc n) zero v = refl
 all-same (suc n) (suc i) v = all-same n i v
 
-word-seven : (i : ℕ) → length (formAt i .word) ≡ 7
+word-seven : (i : ℕ) → length (wordOf i) ≡ 7
 unfolding formAt forms
-word-seven i = sym (List·getD-map (λ (f : Form). length (f .word)) forms i bare) ∙ all-same 16 i 7
+word-seven i = sym (List·getD-map (λ (f : Form). length (f .0)) forms i bare) ∙ all-same 16 i 7
 
 pub form-short : (i a b c : ℕ) → a < 2 ^ 32 → b < 2 ^ 32 → c < 2 ^ 32 → length (formText i a b c) ≤ 53
 form-short i a b c p q r =
     omega (
       arith,
       length-form i a b c,
-      word-short (formAt i .word),
+      word-short (wordOf i),
       word-seven i,
-      operand-short (formAt i .a) a p,
-      operand-short (formAt i .b) b q,
-      operand-short (formAt i .c) c r,
+      operand-short (kindA i) a p,
+      operand-short (kindB i) b q,
+      operand-short (kindC i) c r,
     )
 
 pub wrote-none : (l : List ℕ) (at : ℕ) → Wrote l at [] at l

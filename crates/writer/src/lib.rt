@@ -37,9 +37,9 @@ fn fields_in_range(lead: Kind, f: Fields) -> bool
     ensures { λ r. ⌜ r ≡ fieldsInRange lead f ⌝ }
 {
     let row = form::form_at(f.form);
-    let ka = row.a;
-    let kb = row.b;
-    let kc = row.c;
+    let ka = row.1;
+    let kb = row.2;
+    let kc = row.3;
     in_range(lead, f.lead) && in_range(ka, f.a) && in_range(kb, f.b) && in_range(kc, f.c)
 }
 
@@ -62,7 +62,7 @@ fn operand_width(kind: Kind, v: u32) -> usize
 {
     match kind {
         Kind::Nothing => 0,
-        Kind::Count { low: _, high: _ } => number::number_width(v as u64) + 1,
+        Kind::Count(_, _) => number::number_width(v as u64) + 1,
         Kind::Thousandths => number::weight_width(v as u64) + 1,
     }
 }
@@ -72,7 +72,7 @@ fn lead_width(kind: Kind, v: u32) -> usize
 {
     match kind {
         Kind::Nothing => 0,
-        Kind::Count { low: _, high: _ } => number::number_width(v as u64) + 1,
+        Kind::Count(_, _) => number::number_width(v as u64) + 1,
         Kind::Thousandths => number::weight_width(v as u64),
     }
 }
@@ -81,10 +81,10 @@ fn form_width(form: usize, a: u32, b: u32, c: u32) -> usize
     ensures { λ r. ⌜ r ≡ length (formText form a b c) ⌝ }
 {
     let row = form::form_at(form);
-    let word = row.word;
-    let ka = row.a;
-    let kb = row.b;
-    let kc = row.c;
+    let word = row.0;
+    let ka = row.1;
+    let kb = row.2;
+    let kc = row.3;
     let w = word_width(&word);
     let x = operand_width(ka, a);
     let y = operand_width(kb, b);
@@ -159,7 +159,7 @@ fn write_operand(buf: &mut [u8], at: usize, kind: Kind, v: u32) -> usize
 {
     match kind {
         Kind::Nothing => at,
-        Kind::Count { low: _, high: _ } => {
+        Kind::Count(_, _) => {
             let p = write_byte(buf, at, 32);
             write_number(buf, p, v)
         }
@@ -177,7 +177,7 @@ fn write_lead(buf: &mut [u8], at: usize, kind: Kind, v: u32) -> usize
 {
     match kind {
         Kind::Nothing => at,
-        Kind::Count { low: _, high: _ } => {
+        Kind::Count(_, _) => {
             let p = write_number(buf, at, v);
             write_byte(buf, p, 32)
         }
@@ -191,10 +191,10 @@ fn write_form(buf: &mut [u8], at: usize, form: usize, a: u32, b: u32, c: u32) ->
     ensures { λ r. ⌜ Wrote (now (buf .entry)) at (formText form a b c) r (now (buf .exit)) ⌝ }
 {
     let row = form::form_at(form);
-    let word = row.word;
-    let ka = row.a;
-    let kb = row.b;
-    let kc = row.c;
+    let word = row.0;
+    let ka = row.1;
+    let kb = row.2;
+    let kc = row.3;
     let p = write_word(buf, at, &word);
     let q = write_operand(buf, p, ka, a);
     let r = write_operand(buf, q, kb, b);

@@ -4,7 +4,7 @@ use mathlib.Core.Logic.{⊎-elim}
 use borrow.Author.Needs.{needs}
 use Rattle.form.specs.Line.{fieldsInRange}
 use Rattle.form.specs.Range.{inRange}
-use Rattle.form.specs.Table.{formAt}
+use Rattle.form.specs.Table.{kindA, kindB}
 use Rattle.writer.proofs.Laws.{and-taken, and-untaken}
 use Rattle.writer.proofs.fields_in_range.Statement.{statement}
 use Rattle.writer.proofs.fields_in_range.Tie as tie
@@ -26,7 +26,7 @@ in-range-requires-4 c κs = search needs
 
 -- the tests up to the first operand, and up to the second
 upto-a : (c : tie.Joined1) → let s = c .before .before .before .args in
-    c .if1 .if2 ≡ (inRange (s .lead) (s .f .lead) && inRange (formAt (s .f .form) .a) (s .f .a))
+    c .if1 .if2 ≡ (inRange (s .lead) (s .f .lead) && inRange (kindA (s .f .form)) (s .f .a))
 upto-a c =
     let r = c .before in
     ⊎-elim
@@ -35,7 +35,7 @@ upto-a c =
     (c .if1 .came)
 
 upto-b : (c : tie.Joined2) → let s = c .before .before .before .before .args in
-    c .if2 .if3 ≡ (inRange (s .lead) (s .f .lead) && inRange (formAt (s .f .form) .a) (s .f .a) && inRange (formAt (s .f .form) .b) (s .f .b))
+    c .if2 .if3 ≡ (inRange (s .lead) (s .f .lead) && inRange (kindA (s .f .form)) (s .f .a) && inRange (kindB (s .f .form)) (s .f .b))
 upto-b c =
     let j = c .before in
     ⊎-elim

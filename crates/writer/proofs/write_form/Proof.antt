@@ -17,7 +17,7 @@ slice-aggregate-write-word c = search needs
 
 -- the room, part by part of the row that was looked up
 roomy : (c : tie.After-form-at) → let s = c .before .before .args in let f = c .form-at .result in
-    s .at + (length (wordText (f .word)) + (length (operandText (f .a) (s .a)) + (length (operandText (f .b) (s .b)) + (length (operandText (f .c) (s .c)) + 1))))
+    s .at + (length (wordText (f .0)) + (length (operandText (f .1) (s .a)) + (length (operandText (f .2) (s .b)) + (length (operandText (f .3) (s .c)) + 1))))
     ≤ length (now (s .buf))
 roomy c = rw (c .form-at .ensures) (rw length-form at (c .before .before .pre))
 
@@ -47,10 +47,10 @@ returns : tie.Need-returns
 unfolding formText
 returns c =
     let z = c .before .before .before .before .before .before in let y = z .before .before .before .before in let x = y .before .before .before .before in let w = x .before .before .before .before in
-    rw (← w .before .before .before .before .form-at .ensures)
-    (wrote-then (w .write-word .ensures)
-    (wrote-then (x .write-operand .ensures)
-    (wrote-then (y .write-operand2 .ensures) (wrote-then (z .write-operand3 .ensures) (c .before .before .write-byte .ensures)))))
+    let e = w .before .before .before .before .form-at .ensures in
+    wrote-then (rw e at (w .write-word .ensures))
+    (wrote-then (rw e at (x .write-operand .ensures))
+    (wrote-then (rw e at (y .write-operand2 .ensures)) (wrote-then (rw e at (z .write-operand3 .ensures)) (c .before .before .write-byte .ensures))))
 
 pub write-form-spec : {M : Type 1} → statement M
 write-form-spec =
