@@ -6,7 +6,7 @@ use native.Mathlib.Nat.{not-suc-le-zero, le-of-suc-le-suc}
 use native.Mathlib.Omega.{arith}
 use lib.ListN.{length, getD, List·getD-eq-default}
 use Rattle.form.specs.Line.{verbOf}
-use Rattle.form.specs.Table.{bare, forms, formAt}
+use Rattle.form.specs.Table.{bare, formTotal, forms, formAt}
 use Rattle.step.specs.declared.Verb.the-variants.{Get, Set, Load, Store, Swap, Put, Take, Go, GoAt}
 
 -- inside a list, what stands for a missing entry does not matter
@@ -15,7 +15,7 @@ any-default [] i d e h = absurd (not-suc-le-zero h)
 any-default (x ∷ l) zero d e h = refl
 any-default (x ∷ l) (suc i) d e h = any-default l i d e (le-of-suc-le-suc h)
 
-pub past-table : (i : ℕ) → 16 ≤ i → formAt i ≡ bare
+pub past-table : (i : ℕ) → formTotal ≤ i → formAt i ≡ bare
 unfolding formAt forms
 past-table i h = List·getD-eq-default forms bare h
 

@@ -1,12 +1,12 @@
 -- What a line says, and the numbers that stand in it. Assumes nothing.
-use Prim.Native.Nat.{ℕ}
+use Prim.Native.Nat.{ℕ, _+_}
 use mathlib.Core.List.{List, [], _∷_}
 use mathlib.Core.Bool.{Bool, _&&_}
 use lib.ListN.{getD}
 use Rattle.step.specs.declared.Step.{Step}
 use Rattle.step.specs.declared.Verb.{Verb}
 use Rattle.step.specs.declared.Verb.the-variants.{Get, Set, Load, Store, Swap, Put, Take, Go, GoAt}
-use Rattle.form.specs.Table.{kindA, kindB, kindC, thread}
+use Rattle.form.specs.Table.{stepForms, bareForm, kindA, kindB, kindC, thread}
 use Rattle.form.specs.Range.{inRange}
 use Rattle.form.specs.declared.Kind.{Kind}
 use Rattle.form.specs.declared.Kind.the-variants.{Nothing, Thousandths}
@@ -26,23 +26,23 @@ leadKind StepDue = thread
 
 -- a header's row of the table
 abbrev pub headerForm : Header → ℕ
-headerForm Shape = 9
-headerForm Threads = 10
-headerForm Slots = 11
-headerForm Plain = 12
-headerForm Flag = 13
-headerForm Steps = 14
+headerForm Shape = stepForms
+headerForm Threads = stepForms + 1
+headerForm Slots = stepForms + 2
+headerForm Plain = stepForms + 3
+headerForm Flag = stepForms + 4
+headerForm Steps = stepForms + 5
 
 -- the rows that the line due may have: the first of them, and how many
 abbrev pub firstForm : Due → ℕ
 firstForm (HeaderDue h) = headerForm h
-firstForm WeightDue = 15
+firstForm WeightDue = bareForm
 firstForm StepDue = 0
 
 abbrev pub formCount : Due → ℕ
 formCount (HeaderDue h) = 1
 formCount WeightDue = 1
-formCount StepDue = 9
+formCount StepDue = stepForms
 
 -- where a line may stand
 abbrev pub dueOf : Line → Due
@@ -68,7 +68,7 @@ stepFields t (GoAt stamp) = fields t 8 stamp 0 0
 -- a line's numbers
 abbrev pub fieldsOf : Line → Fields
 fieldsOf (HeaderLine h n) = fields 0 (headerForm h) n 0 0
-fieldsOf (WeightLine w) = fields w 15 0 0 0
+fieldsOf (WeightLine w) = fields w bareForm 0 0 0
 fieldsOf (StepLine s) = stepFields (s .thread) (s .verb)
 
 -- and back: the verb of a row, with its operands

@@ -55,6 +55,13 @@ pub enum Limited {
     Outside,
 }
 
+// How many rows of the table are forms of a step; the header lines follow, and last what follows a weight line's weight.
+const STEP_FORMS: usize = 9;
+
+const BARE_FORM: usize = STEP_FORMS + 6;
+
+const FORM_TOTAL: usize = BARE_FORM + 1;
+
 const NOTHING: Kind = Kind::Nothing;
 
 const CELL: Kind = Kind::Count(1, 16);
@@ -66,7 +73,7 @@ const STAMP: Kind = Kind::Thousandths;
 const VALUE: Kind = Kind::Thousandths;
 
 // The nine forms of a step after its thread, the six header lines, and what follows the weight of a weight line.
-const FORMS: [Form; 16] = [
+const FORMS: [Form; FORM_TOTAL] = [
     Form(*b"get\0\0\0\0", CELL, STAMP, NOTHING),
     Form(*b"set\0\0\0\0", CELL, VALUE, STAMP),
     Form(*b"load\0\0\0", FLAG, NOTHING, NOTHING),
@@ -89,7 +96,11 @@ const FORMS: [Form; 16] = [
 pub fn form_at(i: usize) -> Form
     ensures { λ r. ⌜ r ≡ formAt i ⌝ }
 {
-    if i < 16 { FORMS[i] } else { FORMS[15] }
+    if i < FORM_TOTAL {
+        FORMS[i]
+    } else {
+        FORMS[BARE_FORM]
+    }
 }
 
 // A number judged by its kind.
@@ -139,12 +150,12 @@ fn header_form(h: Header) -> usize
     ensures { λ r. ⌜ r ≡ headerForm h ⌝ }
 {
     match h {
-        Header::Shape => 9,
-        Header::Threads => 10,
-        Header::Slots => 11,
-        Header::Plain => 12,
-        Header::Flag => 13,
-        Header::Steps => 14,
+        Header::Shape => STEP_FORMS,
+        Header::Threads => STEP_FORMS + 1,
+        Header::Slots => STEP_FORMS + 2,
+        Header::Plain => STEP_FORMS + 3,
+        Header::Flag => STEP_FORMS + 4,
+        Header::Steps => STEP_FORMS + 5,
     }
 }
 
@@ -154,7 +165,7 @@ pub fn first_form(due: Due) -> usize
 {
     match due {
         Due::HeaderDue(h) => header_form(h),
-        Due::WeightDue => 15,
+        Due::WeightDue => BARE_FORM,
         Due::StepDue => 0,
     }
 }
@@ -166,7 +177,7 @@ pub fn form_count(due: Due) -> usize
     match due {
         Due::HeaderDue(_) => 1,
         Due::WeightDue => 1,
-        Due::StepDue => 9,
+        Due::StepDue => STEP_FORMS,
     }
 }
 
@@ -265,7 +276,7 @@ pub fn fields_of(line: Line) -> Fields
         },
         Line::WeightLine(w) => Fields {
             lead: w,
-            form: 15,
+            form: BARE_FORM,
             a: 0,
             b: 0,
             c: 0,

@@ -9,7 +9,7 @@ use native.Mathlib.Omega.{arith}
 use borrow.Author.Tests.{eqb-true, eq-eqb}
 use lib.Dec.{leb, eqb}
 use lib.ListN.{length, getD}
-use Rattle.form.specs.Table.{forms, formAt, wordOf, kindA, kindB, kindC}
+use Rattle.form.specs.Table.{formTotal, forms, formAt, wordOf, kindA, kindB, kindC}
 use Rattle.form.specs.Text.{operandText, wordText, formText}
 use Rattle.form.specs.declared.Kind.{Kind}
 use Rattle.form.specs.declared.Kind.the-variants.{Nothing, Count, Thousandths}
@@ -58,7 +58,7 @@ head i = wordText (wordOf i) ++ (follow (kindA i) ∷ [])
 apart : ℕ → Bool
 apart i = allBelow i (λ j. differ (head j) (head i))
 
-all-apart : allBelow 16 apart ≡ true
+all-apart : allBelow formTotal apart ≡ true
 unfolding apart head formAt forms wordText
 all-apart = refl
 
@@ -71,9 +71,9 @@ nothing Thousandths = false
 abbrev packed : Kind → Kind → Kind → Bool
 packed a b c = cond (nothing a) (nothing b && nothing c) true
 
-row-packed : (i : ℕ) → i < 16 → packed (kindA i) (kindB i) (kindC i) ≡ true
+row-packed : (i : ℕ) → i < formTotal → packed (kindA i) (kindB i) (kindC i) ≡ true
 unfolding formAt forms
-row-packed = below-all 16 (λ i. packed (kindA i) (kindB i) (kindC i)) refl
+row-packed = below-all formTotal (λ i. packed (kindA i) (kindB i) (kindC i)) refl
 
 -- a number without a point has at most 4 digits
 abbrev pub short : Kind → Bool
@@ -81,17 +81,17 @@ short Nothing = true
 short (Count low high) = leb high 9999
 short Thousandths = true
 
-pub short-a : (i : ℕ) → i < 16 → short (kindA i) ≡ true
+pub short-a : (i : ℕ) → i < formTotal → short (kindA i) ≡ true
 unfolding formAt forms
-short-a = below-all 16 (λ i. short (kindA i)) refl
+short-a = below-all formTotal (λ i. short (kindA i)) refl
 
-pub short-b : (i : ℕ) → i < 16 → short (kindB i) ≡ true
+pub short-b : (i : ℕ) → i < formTotal → short (kindB i) ≡ true
 unfolding formAt forms
-short-b = below-all 16 (λ i. short (kindB i)) refl
+short-b = below-all formTotal (λ i. short (kindB i)) refl
 
-pub short-c : (i : ℕ) → i < 16 → short (kindC i) ≡ true
+pub short-c : (i : ℕ) → i < formTotal → short (kindC i) ≡ true
 unfolding formAt forms
-short-c = below-all 16 (λ i. short (kindC i)) refl
+short-c = below-all formTotal (λ i. short (kindC i)) refl
 
 is-nothing : (k : Kind) → nothing k ≡ true → k ≡ Nothing
 is-nothing Nothing e = refl
@@ -110,7 +110,7 @@ text-follow Nothing j k a b c s p e h =
 text-follow (Count low high) j k a b c s p e h = h .0
 text-follow Thousandths j k a b c s p e h = h .0
 
-pub text-head : (i : ℕ) (s : List ℕ) (p a b c : ℕ) → i < 16 → Stands s p (formText i a b c) → Stands s p (head i)
+pub text-head : (i : ℕ) (s : List ℕ) (p a b c : ℕ) → i < formTotal → Stands s p (formText i a b c) → Stands s p (head i)
 unfolding head formText
 text-head i s p a b c l h =
     let w = wordText (wordOf i) in
@@ -173,7 +173,7 @@ fits-follow i j k s n l w e g =
           (either (nothing i)),
     )
 
-fits-head : (i : ℕ) (s : List ℕ) (l : Operand) → i < 16 → Fits (formRow i s l) → Stands s (placeIn l) (head i)
+fits-head : (i : ℕ) (s : List ℕ) (l : Operand) → i < formTotal → Fits (formRow i s l) → Stands s (placeIn l) (head i)
 unfolding formRow head
 fits-head i s l h g =
     let w = wordText (wordOf i) in
@@ -183,7 +183,7 @@ fits-head i s l h g =
     stands-append s (placeIn l) w (follow (kindA i) ∷ []) (here .stands) (rw (← here .next) (f .1, tt))
 
 -- so two rows that begin at one place are one
-pub one-row : (i j : ℕ) (s : List ℕ) (p : ℕ) → i < 16 → j < 16 → Stands s p (head i) → Stands s p (head j) → i ≡ j
+pub one-row : (i j : ℕ) (s : List ℕ) (p : ℕ) → i < formTotal → j < formTotal → Stands s p (head i) → Stands s p (head j) → i ≡ j
 unfolding apart
 one-row i j s p hi hj x y =
     ⊎-elim
@@ -191,12 +191,12 @@ one-row i j s p hi hj x y =
     (λ (q : j ≤ i). ⊎-elim (λ (e : j ≡ i). sym e) (λ (q : j < i). absurd (later j i hi q y x)) (eq-or-lt-of-le q))
     (split i j)
   where
-    later : (i j : ℕ) → j < 16 → i < j → Stands s p (head i) → Stands s p (head j) → ⊥
+    later : (i j : ℕ) → j < formTotal → i < j → Stands s p (head i) → Stands s p (head j) → ⊥
     later i j h q x y =
-        differ-not (head i) (head j) s p x y (below-all j (λ i. differ (head i) (head j)) (below-all 16 apart all-apart j h) i q)
+        differ-not (head i) (head j) s p x y (below-all j (λ i. differ (head i) (head j)) (below-all formTotal apart all-apart j h) i q)
 
 -- where a row's text stands, no earlier row fits
-pub others : (i j : ℕ) (s : List ℕ) (l : Operand) (a b c : ℕ) → i < 16 → j < i → Stands s (placeIn l) (formText i a b c) → Fits (formRow j s l) → ⊥
+pub others : (i j : ℕ) (s : List ℕ) (l : Operand) (a b c : ℕ) → i < formTotal → j < i → Stands s (placeIn l) (formText i a b c) → Fits (formRow j s l) → ⊥
 others i j s l a b c h q st g =
     let e = one-row j i s (placeIn l) (omega arith) h (fits-head j s l (omega arith) g) (text-head i s (placeIn l) a b c h st) in
     omega arith

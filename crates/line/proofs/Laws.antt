@@ -12,6 +12,7 @@ use lib.Dec.{eqb}
 use lib.ListN.{length, getD, take, drop, length-drop, drop-of-length-le}
 use lib.Seq.{drop-cons}
 use Rattle.form.specs.Line.{firstForm, formCount}
+use Rattle.form.specs.Table.{formTotal}
 use Rattle.form.specs.declared.Due.{Due}
 use Rattle.form.specs.declared.Due.the-variants.{HeaderDue, WeightDue, StepDue}
 use Rattle.form.specs.declared.Header.the-variants.{Shape, Threads, Slots, Plain, Flag, Steps}
@@ -102,7 +103,7 @@ unfolding lineAt upToLF
 line-out s at h = rw (drop-of-length-le s {i = at} (omega arith))
 
 -- the rows of every line due are rows of the table
-pub rows-in : (d : Due) → firstForm d + formCount d ≤ 16
+pub rows-in : (d : Due) → firstForm d + formCount d ≤ formTotal
 rows-in (HeaderDue Shape) = omega arith
 rows-in (HeaderDue Threads) = omega arith
 rows-in (HeaderDue Slots) = omega arith

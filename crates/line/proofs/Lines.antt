@@ -6,7 +6,7 @@ use native.Mathlib.Omega.{arith}
 use borrow.Author.Tests.{eqb-true}
 use Rattle.form.specs.Line.{leadKind, headerForm, firstForm, formCount, dueOf, fields, stepFields, fieldsOf, verbOf, lineOf, fieldsInRange}
 use Rattle.form.specs.Range.{inRange}
-use Rattle.form.specs.Table.{thread, forms, formAt, kindA, kindB, kindC}
+use Rattle.form.specs.Table.{thread, bareForm, formTotal, forms, formAt, kindA, kindB, kindC}
 use Rattle.form.specs.declared.Due.{Due}
 use Rattle.form.specs.declared.Due.the-variants.{HeaderDue, WeightDue, StepDue}
 use Rattle.form.specs.declared.Fields.{Fields}
@@ -74,7 +74,7 @@ pub record Among (d : Due) (i : ℕ) : Type 0 where
   pub low : firstForm d ≤ i
   pub high : i < firstForm d + formCount d
 
-pub header-row : (h : Header) → headerForm h < 16
+pub header-row : (h : Header) → headerForm h < formTotal
 header-row Shape = omega arith
 header-row Threads = omega arith
 header-row Slots = omega arith
@@ -82,7 +82,7 @@ header-row Plain = omega arith
 header-row Flag = omega arith
 header-row Steps = omega arith
 
-pub among-table : (d : Due) (i : ℕ) → Among d i → i < 16
+pub among-table : (d : Due) (i : ℕ) → Among d i → i < formTotal
 among-table (HeaderDue h) i m = omega (arith, header-row h)
 among-table WeightDue i m = omega arith
 among-table StepDue i m = omega arith
@@ -90,10 +90,10 @@ among-table StepDue i m = omega arith
 header-at : (h : Header) (t i a b c : ℕ) → i ≡ headerForm h → Ranged Nothing (fields t i a b c) → fields 0 (headerForm h) a 0 0 ≡ fields t i a b c
 header-at h t i a b c e r = rw e (header-fields h t a b c (rw e at r))
 
-weight-at : (t i a b c : ℕ) → i ≡ 15 → Ranged Thousandths (fields t i a b c) → fields t 15 0 0 0 ≡ fields t i a b c
+weight-at : (t i a b c : ℕ) → i ≡ bareForm → Ranged Thousandths (fields t i a b c) → fields t bareForm 0 0 0 ≡ fields t i a b c
 unfolding formAt forms
 weight-at t i a b c e r =
-    let q : Ranged Thousandths (fields t 15 a b c) = rw e at r in
+    let q : Ranged Thousandths (fields t bareForm a b c) = rw e at r in
     rw (e, absent a (q .a), absent b (q .b), absent c (q .c))
 
 pub fields-line : (d : Due) (f : Fields) → Among d (f .form) → Ranged (leadKind d) f → fieldsOf (lineOf d f) ≡ f

@@ -9,7 +9,7 @@ use lib.Dec.{leb}
 use lib.ListN.{getD}
 use Rattle.form.specs.Line.{headerForm, dueOf, fieldsOf, lineInRange}
 use Rattle.form.specs.Range.{most, inRange}
-use Rattle.form.specs.Table.{thread, forms, formAt}
+use Rattle.form.specs.Table.{thread, bareForm, forms, formAt}
 use Rattle.form.specs.Text.{leadText, wordText, formText, fieldsText, lineText}
 use Rattle.form.specs.declared.Due.{Due}
 use Rattle.form.specs.declared.Due.the-variants.{HeaderDue, WeightDue, StepDue}
@@ -78,7 +78,7 @@ line-mark (HeaderLine h n) s at r st = letter-mark s at (header-letter h s at (h
 line-mark (WeightLine w) s at r st =
     let f = fieldsOf (WeightLine w) in
     let m : w ≤ most = leb-true w most (ranged Thousandths f r .lead) in
-    number-mark (w / 1000) 46 (lastDigits 3 w) s at (omega arith) refl (stands-left s at (weightText w) (formText 15 0 0 0) st)
+    number-mark (w / 1000) 46 (lastDigits 3 w) s at (omega arith) refl (stands-left s at (weightText w) (formText bareForm 0 0 0) st)
 line-mark (StepLine t) s at r st =
     let f = fieldsOf (StepLine t) in
     let v = f .lead in

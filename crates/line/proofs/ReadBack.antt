@@ -12,7 +12,7 @@ use lib.ListN.{length, getD, length-append}
 use Rattle.form.proofs.Range.{limited-in}
 use Rattle.form.specs.Line.{leadKind, firstForm, formCount, dueOf, fields, fieldsOf, lineInRange}
 use Rattle.form.specs.Range.{most, inRange}
-use Rattle.form.specs.Table.{wordOf, kindA, kindB, kindC}
+use Rattle.form.specs.Table.{formTotal, wordOf, kindA, kindB, kindC}
 use Rattle.form.specs.Text.{operandText, leadText, wordText, formText, fieldsText, lineText}
 use Rattle.form.specs.declared.Due.{Due}
 use Rattle.form.specs.declared.Due.the-variants.{HeaderDue, WeightDue, StepDue}
@@ -124,7 +124,7 @@ closed-reads : (s : List ℕ) (i t a b c l x y e : ℕ) → getD s e 0 ≡ 10
     → closed s i (Good t l) (Good a x) (Good b y) (Good c e) ≡ Read (fields t i a b c) (e + 1)
 closed-reads s i t a b c l x y e h = simp (eq-eqb _ _ h)
 
-row-reads : (lead : Kind) (f : Fields) (s : List ℕ) (at : ℕ) → f .form < 16 → Ranged lead f → Stands s at (formText (f .form) (f .a) (f .b) (f .c))
+row-reads : (lead : Kind) (f : Fields) (s : List ℕ) (at : ℕ) → f .form < formTotal → Ranged lead f → Stands s at (formText (f .form) (f .a) (f .b) (f .c))
     → formRow (f .form) s (Good (f .lead) at) ≡ Read f (at + length (formText (f .form) (f .a) (f .b) (f .c)))
 unfolding formRow formText
 row-reads lead f s at n rg h =

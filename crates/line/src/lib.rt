@@ -8,6 +8,7 @@ use number::Reading;
 ghost use mathlib.Core.Path.{_≡_};
 ghost use Prim.Native.Nat.{_+_, _≤_, _<_, max};
 ghost use lib.ListN.{length};
+ghost use Rattle.form.specs.Table.{formTotal};
 ghost use Rattle.line.specs.Operand.{word, ofReading, numberAt, spaced, operandAt, afterOperand, afterWord, spaceAfter, leadAt};
 ghost use Rattle.line.specs.Row.{chosen, endAt, endAfter, closed, formRow, findForm, dueRow, lineRead, readLine};
 ghost use Rattle.line.specs.Refusal.{numberOf, placeOf, partOf, lineAt, lineEnd};
@@ -255,7 +256,7 @@ fn larger(x: usize, y: usize) -> usize
 
 // The first of so many rows that the line's form fits, or the farthest place that one of them came to.
 fn find_form(text: &[u8], lead: Operand, from: usize, count: usize, start: usize) -> Row
-    requires { ⌜ from + count ≤ 16 ⌝ }
+    requires { ⌜ from + count ≤ formTotal ⌝ }
     ensures { λ r. ⌜ r ≡ findForm count from start (now (text .entry)) lead ⌝ }
 {
     let mut far = start;

@@ -11,7 +11,7 @@ use lib.Dec.{eqb}
 use lib.ListN.{length, getD, drop, replicate, length-append, drop-of-length-le, List·getD-map}
 use lib.Seq.{drop-cons}
 use Rattle.form.specs.Range.{inRange, limited}
-use Rattle.form.specs.Table.{bare, forms, formAt, wordOf, kindA, kindB, kindC}
+use Rattle.form.specs.Table.{bare, formTotal, forms, formAt, wordOf, kindA, kindB, kindC}
 use Rattle.form.specs.Text.{operandText, leadText, wordText, formText}
 use Rattle.form.specs.declared.Form.{Form}
 use Rattle.form.specs.declared.Kind.{Kind}
@@ -99,7 +99,7 @@ all-same (suc n) (suc i) v = all-same n i v
 
 word-seven : (i : ℕ) → length (wordOf i) ≡ 7
 unfolding formAt forms
-word-seven i = sym (List·getD-map (λ (f : Form). length (f .0)) forms i bare) ∙ all-same 16 i 7
+word-seven i = sym (List·getD-map (λ (f : Form). length (f .0)) forms i bare) ∙ all-same formTotal i 7
 
 pub form-short : (i a b c : ℕ) → a < 2 ^ 32 → b < 2 ^ 32 → c < 2 ^ 32 → length (formText i a b c) ≤ 53
 form-short i a b c p q r =

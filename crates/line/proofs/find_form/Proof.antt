@@ -2,6 +2,7 @@ use mathlib.Core.Path.{_≡_, refl, sym, _∙_}
 use Prim.Native.Nat.{_+_, _≤_}
 use native.Mathlib.Omega.{arith}
 use borrow.Author.Needs.{needs}
+use Rattle.form.specs.Table.{formTotal}
 use Rattle.line.proofs.Laws.{find-end, find-here}
 use Rattle.line.specs.Row.{findForm}
 use Rattle.number.specs.Reading.{count}
@@ -10,7 +11,7 @@ use Rattle.line.proofs.find_form.Tie as tie
 
 abbrev Inv-loop : tie.InvT-loop
 Inv-loop text lead from count start far₀ i₀ left₀ far i left =
-    (findForm left i far text lead ≡ findForm count from start text lead) × (i + left ≤ 16)
+    (findForm left i far text lead ≡ findForm count from start text lead) × (i + left ≤ formTotal)
 
 abbrev μ-loop : tie.MeasureT-loop
 μ-loop text lead from count start far₀ i₀ left₀ far i left = left
