@@ -1,12 +1,14 @@
 -- Laws of the table's rows. Assumes nothing.
-use mathlib.Core.Path.{_≡_, refl}
+use mathlib.Core.Path.{_≡_, refl, sym, ap, _∙_}
 use mathlib.Core.List.{List, [], _∷_}
-use Prim.Native.Nat.{ℕ, zero, suc, _≤_, _<_}
+use mathlib.Core.Logic.{⊎-elim}
+use Prim.Native.Nat.{ℕ, zero, suc, _≤_, _<_, min}
 use native.Mathlib.Nat.{not-suc-le-zero, le-of-suc-le-suc}
 use native.Mathlib.Omega.{arith}
 use lib.ListN.{length, getD, List·getD-eq-default}
 use Rattle.form.specs.Line.{verbOf}
-use Rattle.form.specs.Table.{bare, formTotal, forms, formAt}
+use Rattle.form.specs.Table.{bare, bareForm, formTotal, forms, formAt}
+use Rattle.number.proofs.Choice.{split}
 use Rattle.step.specs.declared.Verb.the-variants.{Get, Set, Load, Store, Swap, Put, Take, Go, GoAt}
 
 -- inside a list, what stands for a missing entry does not matter
@@ -15,9 +17,21 @@ any-default [] i d e h = absurd (not-suc-le-zero h)
 any-default (x ∷ l) zero d e h = refl
 any-default (x ∷ l) (suc i) d e h = any-default l i d e (le-of-suc-le-suc h)
 
-pub past-table : (i : ℕ) → formTotal ≤ i → formAt i ≡ bare
+-- from the last row on stands the last row
+bare-from : (i : ℕ) → bareForm ≤ i → formAt i ≡ bare
 unfolding formAt forms
-past-table i h = List·getD-eq-default forms bare h
+bare-from i h =
+    ⊎-elim
+    (λ (g : i < formTotal). ap (λ (k : ℕ). getD forms k bare) (let e : i ≡ bareForm = omega arith in e))
+    (λ (g : formTotal ≤ i). List·getD-eq-default forms bare g)
+    (split i formTotal)
+
+pub last-row : (i : ℕ) → formAt (min i bareForm) ≡ formAt i
+last-row i =
+    ⊎-elim
+    (λ (h : i < bareForm). ap formAt (omega arith))
+    (λ (h : bareForm ≤ i). bare-from (min i bareForm) (omega arith) ∙ sym (bare-from i h))
+    (split i bareForm)
 
 pub last-verb : (i a b c : ℕ) → 8 ≤ i → verbOf i a b c ≡ GoAt a
 unfolding verbOf

@@ -2,7 +2,8 @@
 use step::Step;
 use step::Verb;
 ghost use mathlib.Core.Path.{_≡_};
-ghost use Rattle.form.specs.Table.{formAt};
+ghost use Prim.Native.Nat.{min};
+ghost use Rattle.form.specs.Table.{formAt, bareForm};
 ghost use Rattle.form.specs.Range.{limited};
 ghost use Rattle.form.specs.Line.{leadKind, headerForm, stepFields, firstForm, formCount, dueOf, fieldsOf, verbOf, lineOf};
 
@@ -92,15 +93,18 @@ const FORMS: [Form; FORM_TOTAL] = [
     Form(*b"\0\0\0\0\0\0\0", NOTHING, NOTHING, NOTHING),
 ];
 
+fn row_of(i: usize) -> usize
+    ensures { λ r. ⌜ r ≡ min i bareForm ⌝ }
+{
+    if i < BARE_FORM { i } else { BARE_FORM }
+}
+
 // A row of the table; past its end the last one.
 pub fn form_at(i: usize) -> Form
     ensures { λ r. ⌜ r ≡ formAt i ⌝ }
 {
-    if i < FORM_TOTAL {
-        FORMS[i]
-    } else {
-        FORMS[BARE_FORM]
-    }
+    let k = row_of(i);
+    FORMS[k]
 }
 
 // A number judged by its kind.
