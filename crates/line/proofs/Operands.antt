@@ -9,7 +9,7 @@ use borrow.Author.Tests.{eqb-true}
 use lib.Dec.{eqb}
 use lib.ListN.{getD}
 use Rattle.form.specs.Range.{inRange, limited}
-use Rattle.form.specs.Text.{kindText, operandText, leadText, wordText}
+use Rattle.form.specs.Text.{operandText, leadText, wordText}
 use Rattle.form.specs.declared.Kind.{Kind}
 use Rattle.form.specs.declared.Kind.the-variants.{Nothing, Count, Thousandths}
 use Rattle.line.specs.Operand.{word, ofReading, numberAt, spaced, operandAt, afterOperand, afterWord, spaceAfter, leadAt}
@@ -20,6 +20,7 @@ use Rattle.number.proofs.OnlyTexts.{number-is, weight-is}
 use Rattle.number.proofs.Standing.{here-then, here-none, here-byte}
 use Rattle.number.specs.Bytes.{Here}
 use Rattle.number.specs.Reading.{count, weight}
+use Rattle.number.specs.Text.{numberText, weightText}
 use Rattle.number.specs.declared.Reading.{Reading}
 use Rattle.number.specs.declared.Reading.the-variants.{Got, Stopped}
 
@@ -63,6 +64,12 @@ reading-is k at (Got w q) v p e =
     (cc, rw h at x))
     (λ (x : inRange k w ≡ false). let z : _≡_ {A = ℕ} 0 1 = cc (simp x at e) in absurd (omega arith))
     (either (inRange k w))
+
+-- the text of a number of a kind, without the space beside it
+kindText : Kind → ℕ → List ℕ
+kindText Nothing v = []
+kindText (Count low high) v = numberText v
+kindText Thousandths v = weightText v
 
 number-at : (k : Kind) (s : List ℕ) (at v p : ℕ) → numberAt k s at ≡ Good v p → Here s at (kindText k v) p × (inRange k v ≡ true)
 unfolding kindText inRange
