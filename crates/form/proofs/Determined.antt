@@ -1,5 +1,5 @@
 -- Any two results that a public contract allows are equal, and so is every lent byte afterwards. Assumes nothing.
-use Rattle.number.proofs.Determined.{determined, OneResult}
+use Rattle.laws.proofs.Determined.{determined, OneResult}
 use Rattle.form.proofs.form_at.Reads as form-at
 use Rattle.form.proofs.limit.Reads as limit
 use Rattle.form.proofs.lead_kind.Reads as lead-kind

@@ -8,7 +8,7 @@ use native.Mathlib.Omega.{arith}
 use lib.ListN.{length, getD, List·getD-eq-default}
 use Rattle.form.specs.Line.{verbOf}
 use Rattle.form.specs.Table.{bare, bareForm, formTotal, forms, formAt}
-use Rattle.number.proofs.Choice.{split}
+use Rattle.laws.proofs.Choice.{split}
 use Rattle.step.specs.declared.Verb.the-variants.{Get, Set, Load, Store, Swap, Put, Take, Go, GoAt}
 
 -- inside a list, what stands for a missing entry does not matter

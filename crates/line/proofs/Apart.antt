@@ -19,7 +19,7 @@ use Rattle.line.specs.Operand.{spaced, operandAt, afterOperand, afterWor
 use Rattle.line.specs.Row.{closed, formRow}
 use Rattle.line.specs.declared.Operand.{Operand}
 use Rattle.line.specs.declared.Operand.the-variants.{Good, OutOfRange, NoForm}
-use Rattle.number.proofs.Choice.{either, split, and-left, and-right}
+use Rattle.laws.proofs.Choice.{either, split, and-left, and-right}
 use Rattle.number.proofs.Standing.{stands-append, stands-left, stands-right}
 use Rattle.number.specs.Bytes.{Stands}
 

@@ -1,7 +1,7 @@
 -- Any two results that a public contract allows are equal, and so is every lent byte afterwards. Assumes nothing.
 use mathlib.Core.Path.{_≡_}
 use denote.Ref.{now}
-use Rattle.number.proofs.Determined.{determined, OneResult}
+use Rattle.laws.proofs.Determined.{determined, OneResult}
 use Rattle.line.proofs.read_line.Reads as read-line
 use Rattle.line.proofs.number_of.Reads as number-of
 use Rattle.line.proofs.place_of.Reads as place-of

@@ -24,7 +24,7 @@ use Rattle.line.specs.declared.Operand.{Operand}
 use Rattle.line.specs.declared.Operand.the-variants.{Good, NoForm}
 use Rattle.line.specs.declared.Row.{Row}
 use Rattle.line.specs.declared.Row.the-variants.{NotForm}
-use Rattle.number.proofs.Choice.{either}
+use Rattle.laws.proofs.Choice.{either}
 
 pub positive : (n : ℕ) → (n ≡ 0 → ⊥) → 0 < n
 positive n h = omega arith

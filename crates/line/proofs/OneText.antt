@@ -8,7 +8,8 @@ use borrow.Author.Tests.{leb-true, le-leb, lt-leb}
 use lib.Dec.{leb}
 use lib.ListN.{getD}
 use Rattle.form.specs.Line.{headerForm, dueOf, fieldsOf, lineInRange}
-use Rattle.form.specs.Range.{most, inRange}
+use Rattle.step.specs.Limit.{most}
+use Rattle.form.specs.Range.{inRange}
 use Rattle.form.specs.Table.{thread, bareForm, forms, formAt}
 use Rattle.form.specs.Text.{leadText, wordText, formText, fieldsText, lineText}
 use Rattle.form.specs.declared.Due.{Due}
@@ -22,7 +23,7 @@ use Rattle.line.proofs.Apart.{head, text-head, one-row}
 use Rattle.line.proofs.Lines.{ranged, header-row}
 use Rattle.line.proofs.ReadBack.{line-reads}
 use Rattle.line.specs.Promise.{LineOneText}
-use Rattle.number.proofs.Choice.{and-right}
+use Rattle.laws.proofs.Choice.{and-right}
 use Rattle.number.proofs.Decimal.{length-pow}
 use Rattle.number.proofs.Digits.{stop-bad, number-rest}
 use Rattle.number.proofs.ReadBack.{number-reads}

@@ -22,7 +22,7 @@ use Rattle.line.specs.declared.Operand.{Operand}
 use Rattle.line.specs.declared.Operand.the-variants.{Good, OutOfRange, NoForm}
 use Rattle.line.specs.declared.Row.{Row}
 use Rattle.line.specs.declared.Row.the-variants.{Read, RangeAt, NotForm}
-use Rattle.number.proofs.Choice.{either}
+use Rattle.laws.proofs.Choice.{either}
 use Rattle.number.proofs.Standing.{here-then, here-byte}
 use Rattle.number.specs.Bytes.{Here}
 

@@ -15,7 +15,7 @@ use Rattle.form.specs.declared.Kind.the-variants.{Nothing, Count, Thousandths}
 use Rattle.line.specs.Operand.{word, ofReading, numberAt, spaced, operandAt, afterOperand, afterWord, spaceAfter, leadAt}
 use Rattle.line.specs.declared.Operand.{Operand}
 use Rattle.line.specs.declared.Operand.the-variants.{Good, OutOfRange, NoForm}
-use Rattle.number.proofs.Choice.{either}
+use Rattle.laws.proofs.Choice.{either}
 use Rattle.number.proofs.OnlyTexts.{number-is, weight-is}
 use Rattle.number.proofs.Standing.{here-then, here-none, here-byte}
 use Rattle.number.specs.Bytes.{Here}

@@ -11,7 +11,8 @@ use lib.Dec.{leb, eqb}
 use lib.ListN.{length, getD, length-append}
 use Rattle.form.proofs.Range.{limited-in}
 use Rattle.form.specs.Line.{leadKind, firstForm, formCount, dueOf, fields, fieldsOf, lineInRange}
-use Rattle.form.specs.Range.{most, inRange}
+use Rattle.step.specs.Limit.{most}
+use Rattle.form.specs.Range.{inRange}
 use Rattle.form.specs.Table.{formTotal, wordOf, kindA, kindB, kindC}
 use Rattle.form.specs.Text.{operandText, leadText, wordText, formText, fieldsText, lineText}
 use Rattle.form.specs.declared.Due.{Due}
@@ -29,7 +30,7 @@ use Rattle.line.specs.declared.Operand.{Operand}
 use Rattle.line.specs.declared.Operand.the-variants.{Good}
 use Rattle.line.specs.declared.Row.{Row}
 use Rattle.line.specs.declared.Row.the-variants.{Read, RangeAt, NotForm}
-use Rattle.number.proofs.Choice.{either, and-right}
+use Rattle.laws.proofs.Choice.{either, and-right}
 use Rattle.number.proofs.Decimal.{length-snoc, length-pow}
 use Rattle.number.proofs.ReadBack.{number-reads, weight-reads}
 use Rattle.number.proofs.Standing.{stands-left, stands-right}

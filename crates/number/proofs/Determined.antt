@@ -1,6 +1,7 @@
 -- Any two results that a public contract allows are equal, and so is every lent byte afterwards. Assumes nothing.
-use mathlib.Core.Path.{_≡_, sym, _∙_}
+use mathlib.Core.Path.{_≡_}
 use denote.Ref.{now}
+use Rattle.laws.proofs.Determined.{determined, OneResult}
 use Rattle.number.proofs.byte_at.Reads as byte-at
 use Rattle.number.proofs.read_count.Reads as read-count
 use Rattle.number.proofs.read_weight.Reads as read-weight
@@ -10,14 +11,6 @@ use Rattle.number.proofs.has_room.Reads as has-room
 use Rattle.number.proofs.put_byte.Reads as put-byte
 use Rattle.number.proofs.put_number.Reads as put-number
 use Rattle.number.proofs.put_weight.Reads as put-weight
-
--- two values that are each equal to one and the same
-pub determined : {A : Type 0} {x y z : A} → x ≡ z → y ≡ z → x ≡ y
-determined p q = p ∙ sym q
-
--- a contract that fixes the result
-abbrev pub OneResult : {K : Type 0} {A R E : K → Type 0} → ((k : K) → A k → R k → E k → Type 0) → Type 0
-OneResult {K} {A} {R} {E} post = (k : K) (a : A k) (x y : R k) (e f : E k) → post k a x e → post k a y f → x ≡ y
 
 pub byte-at-determined : OneResult byte-at.Post
 byte-at-determined κs a x y e f = determined

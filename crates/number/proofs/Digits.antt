@@ -10,7 +10,7 @@ use native.Mathlib.Omega.{arith}
 use borrow.Author.Tests.{leb-true, eqb-true, eqb-false, le-leb, lt-leb, eq-eqb, ne-eqb}
 use lib.Dec.{leb, eqb, lit≤}
 use lib.ListN.{length, getD}
-use Rattle.number.proofs.Choice.{either, and-left, and-right}
+use Rattle.laws.proofs.Choice.{either, and-left, and-right}
 use Rattle.number.specs.Reading.{isDigit, digits, number, point, weight}
 use Rattle.number.specs.declared.Reading.{Reading}
 use Rattle.number.specs.declared.Reading.the-variants.{Got, Stopped}

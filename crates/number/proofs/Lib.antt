@@ -1,4 +1,3 @@
-pub mod Choice
 pub mod Digits
 pub mod Decimal
 pub mod Stores

@@ -9,7 +9,7 @@ use native.Mathlib.Omega.{arith}
 use borrow.Author.Tests.{eqb-true, eqb-false, lt-leb}
 use lib.Dec.{leb, eqb}
 use lib.ListN.{getD}
-use Rattle.number.proofs.Choice.{either}
+use Rattle.laws.proofs.Choice.{either}
 use Rattle.number.proofs.Decimal.{text-small, text-big}
 use Rattle.number.proofs.Digits.{digit-low, digit-high, number-zero, number-rest, weight-more, weight-none, weight-bad}
 use Rattle.number.proofs.Standing.{here-then, here-byte}

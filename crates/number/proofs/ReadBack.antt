@@ -9,7 +9,7 @@ use native.Mathlib.Omega.{arith}
 use borrow.Author.Tests.{le-leb}
 use lib.ListN.{length, getD, List·getD-append}
 use lib.Seq.{sets}
-use Rattle.number.proofs.Choice.{split}
+use Rattle.laws.proofs.Choice.{split}
 use Rattle.number.proofs.Decimal.{by-tens, text-small, text-big, length-snoc, length-weight, length-pow}
 use Rattle.number.proofs.Digits.{step-yes, stop-got, step-end, number-zero, number-rest, weight-more}
 use Rattle.number.proofs.Standing.{stands-left, stands-right}

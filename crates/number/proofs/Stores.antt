@@ -11,7 +11,7 @@ use borrow.Author.Tests.{leb-true, leb-false, le-leb, lt-leb}
 use lib.Dec.{leb}
 use lib.ListN.{length, getD, set, length-append, length-set}
 use lib.Seq.{sets, set-comm, length-sets, getD-set-same, getD-set-other}
-use Rattle.number.proofs.Choice.{split}
+use Rattle.laws.proofs.Choice.{split}
 use Rattle.number.proofs.Decimal.{length-last}
 use Rattle.number.specs.Buffer.{room, placed, putAt, Wrote}
 use Rattle.number.specs.Bytes.{Stands}

@@ -15,10 +15,10 @@ use Rattle.line.proofs.Apart.{short}
 use Rattle.line.proofs.ReadBack.{line-reads}
 use Rattle.line.specs.Row.{readLine}
 use Rattle.line.specs.declared.LineRead.the-variants.{Took}
-use Rattle.number.proofs.Choice.{either}
+use Rattle.laws.proofs.Choice.{either}
 use Rattle.number.proofs.Stores.{below-sets, after-sets, stands-sets, room-yes}
 use Rattle.number.specs.Buffer.{room, placed}
-use Rattle.promises.specs.Writing.{WrittenBack, OnlyItsBytes, RefusedKeeps}
+use Rattle.promises.specs.Writing.{WrittenBack, OnlyItsBytes, RefusedUntouched}
 use Rattle.writer.specs.Writer.{lineWritten, linePlaced, writtenNumber}
 use Rattle.writer.specs.declared.LineWritten.{LineWritten}
 use Rattle.writer.specs.declared.LineWritten.the-variants.{Upto, NotInRange, NoRoom}
@@ -68,6 +68,6 @@ only-its-bytes l at x =
     (refl, λ k o. refl)
     (refl, λ k o. refl)
 
-pub refused-keeps : RefusedKeeps
-refused-keeps l at x =
+pub refused-untouched : RefusedUntouched
+refused-untouched l at x =
     by-answer (λ w m. 0 < writtenNumber w → m ≡ l) l at x (λ r h n. absurd (not-suc-le-zero n)) (λ n. refl) (λ n. refl)

@@ -25,5 +25,5 @@ OnlyItsBytes =
     × ((k : ℕ) → (k < at) ⊎ (at + length (lineText x) ≤ k) → getD (linePlaced l at x) k 0 ≡ getD l k 0)
 
 -- "A refused line leaves the buffer untouched"
-abbrev pub RefusedKeeps : Type 0
-RefusedKeeps = (l : List ℕ) (at : ℕ) (x : Line) → 0 < writtenNumber (lineWritten l at x) → linePlaced l at x ≡ l
+abbrev pub RefusedUntouched : Type 0
+RefusedUntouched = (l : List ℕ) (at : ℕ) (x : Line) → 0 < writtenNumber (lineWritten l at x) → linePlaced l at x ≡ l

@@ -6,7 +6,10 @@ ghost use Rattle.number.specs.Promise.{CountReadBack, CountOnlyText, WeightRead
 ghost use Rattle.line.specs.Promise.{LineReadBack, LineOnlyText, LineOneText};
 ghost use Rattle.schedule.specs.Promise.{ScheduleReadBack, ScheduleOnlyText};
 ghost use Rattle.schedule.specs.Starred.{all, cases};
-ghost use Rattle.promises.specs.Writing.{WrittenBack, OnlyItsBytes, RefusedKeeps};
+ghost use Rattle.cases.specs.Cases.{playedAll, machineCases};
+ghost use Rattle.kept.specs.Kept.{RefusedKeeps, RefusedNumbered, TakenCounts, StandingKept, FreshStands, FreshWhole, WholeKept, RefusedFalls, OverRecords};
+ghost use Rattle.published.specs.Follows.{TakenFollows, AllowedTaken, OneEvent};
+ghost use Rattle.promises.specs.Writing.{WrittenBack, OnlyItsBytes, RefusedUntouched};
 
 // Each number has one text, and the readers take those texts only.
 pub fn numbers_have_one_text()
@@ -25,10 +28,40 @@ pub fn schedules_have_one_text()
 
 // A line that was written is read back, only its own bytes change, and a refused one changes none.
 pub fn lines_are_written()
-    ensures { λ r. ⌜ WrittenBack × OnlyItsBytes × RefusedKeeps ⌝ }
+    ensures { λ r. ⌜ WrittenBack × OnlyItsBytes × RefusedUntouched ⌝ }
 {}
 
 // The starred cases, as one table.
 pub fn starred_cases_hold()
     ensures { λ r. ⌜ all cases ≡ true ⌝ }
+{}
+
+// The starred cases of the machine and the whole listing, as one table.
+pub fn machine_cases_hold()
+    ensures { λ r. ⌜ playedAll machineCases ≡ machineCases ⌝ }
+{}
+
+// A refused step gives back the same state and list, under its number; a taken one counts one step.
+pub fn refused_steps_keep()
+    ensures { λ r. ⌜ RefusedKeeps × RefusedNumbered × TakenCounts ⌝ }
+{}
+
+// Every step leaves a standing state standing; a fresh machine stands, and a refused opening gives none.
+pub fn standing_is_kept()
+    ensures { λ r. ⌜ StandingKept × FreshStands × RefusedFalls ⌝ }
+{}
+
+// The lists that stand for arrays are as long as the arrays, from a fresh machine on.
+pub fn rooms_are_whole()
+    ensures { λ r. ⌜ FreshWhole × WholeKept ⌝ }
+{}
+
+// Over three lent lists of numbers, a step does what it does over the list of writes that they are.
+pub fn lists_are_records()
+    ensures { λ r. ⌜ OverRecords ⌝ }
+{}
+
+// A step is taken exactly when it is admitted and the published rules allow it, and it does what the rule says.
+pub fn steps_follow_the_rules()
+    ensures { λ r. ⌜ TakenFollows × AllowedTaken × OneEvent ⌝ }
 {}

@@ -1,5 +1,5 @@
 -- Any two results that a public contract allows are equal, and so is every lent byte afterwards. Assumes nothing.
-use Rattle.number.proofs.Determined.{determined, OneResult}
+use Rattle.laws.proofs.Determined.{determined, OneResult}
 use Rattle.schedule.proofs.judge.Reads as judge
 
 pub judge-determined : OneResult judge.Post

@@ -25,7 +25,7 @@ use Rattle.line.specs.Promise.{TakenLine}
 use Rattle.line.specs.Row.{readLine}
 use Rattle.line.specs.declared.LineRead.{LineRead}
 use Rattle.line.specs.declared.LineRead.the-variants.{Took, Fault}
-use Rattle.number.proofs.Choice.{either, and-left, and-right}
+use Rattle.laws.proofs.Choice.{either, and-left, and-right}
 use Rattle.number.proofs.Standing.{here-then, here-none, stands-whole}
 use Rattle.number.specs.Bytes.{Here}
 use Rattle.number.specs.Reading.{count}

@@ -18,7 +18,7 @@ use Rattle.form.specs.declared.Kind.{Kind}
 use Rattle.form.specs.declared.Kind.the-variants.{Nothing, Count, Thousandths}
 use Rattle.form.specs.declared.Limited.{Limited}
 use Rattle.form.specs.declared.Limited.the-variants.{Within, Outside}
-use Rattle.number.proofs.Choice.{either}
+use Rattle.laws.proofs.Choice.{either}
 use Rattle.number.proofs.Decimal.{length-snoc, length-weight, length-pow}
 use Rattle.number.proofs.Stores.{placed-fits}
 use Rattle.number.specs.Buffer.{room, placed, putAt, Wrote}

@@ -1,0 +1,1 @@
+// The starred cases and the listing, as tables of definitions; no code.

@@ -1,0 +1,11 @@
+pub mod Refused
+pub mod Over
+pub mod Views
+pub mod Standing
+pub mod Fresh
+pub mod Parts
+pub mod Access
+pub mod Memory
+pub mod Calls
+pub mod Kept
+pub mod Whole

@@ -1,0 +1,1 @@
+// What every step keeps; no code.

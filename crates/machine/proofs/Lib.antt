@@ -1,0 +1,4 @@
+pub mod Accessed
+pub mod Sizes
+pub mod Over
+pub mod Determined

@@ -1,0 +1,3 @@
+pub mod Access
+pub mod Calls
+pub mod Step

@@ -1,0 +1,1 @@
+// The published rules, and that the machine's steps are theirs; no code.
