@@ -36,6 +36,10 @@ unfolding goesOn
 goes-on-fits n true m ws i p lost fits h = place-fits n m ws i p fits h
 goes-on-fits n false m ws i p lost fits h = idle-fits n m ws i fits
 
+-- a flag that a line names is one of the machine's
+pub flag-in : (m : Machine) (f : ℕ) → among f (m .shape .flags) ≡ true → f - 1 < m .shape .flags
+flag-in m f e = omega (arith, among-some f (m .shape .flags) e)
+
 module _ (n : ℕ) (m : Machine) (ws : List Write) (fits : Fits n m ws) (i : ℕ) (l : i < m .shape .threads) where
   -- second: a status is read
   looks-fits : (k due : ℕ) (p : Place) (lost : Answer) → NotesFit n p → Fits n (looks m i k due p lost .machine) ws
@@ -66,19 +70,15 @@ module _ (n : ℕ) (m : Machine) (ws : List Write) (fits : Fits n m ws) (i : ℕ
   resumed-fits (TakeRead k) v r w h = place-fits n m ws i (TakeFree k v) fits (omega arith, h)
   resumed-fits (TakeFree k x) v r w h = closes-fits k _ (Got x) (omega arith)
 
-  -- a flag that a line names is one of the machine's
-  flag-in : (f : ℕ) → among f (m .shape .flags) ≡ true → f - 1 < m .shape .flags
-  flag-in f e = omega (arith, among-some f (m .shape .flags) e)
-
   -- what each verb does
   pub acted-fits : (x : Verb) (v : ℕ) → named (m .shape) x ≡ true → greatest x ≤ most → rankOf (place m i) < n → v ≤ most
       → Fits n (acted m i x v .machine) ws
   unfolding acted
   acted-fits (Get c t) v e g r h = idle-fits n m ws i fits
   acted-fits (Set c x t) v e g r h = idle-fits n m ws i fits
-  acted-fits (Load f) v e g r h = idle-fits n _ ws i (read-fits n m ws fits i l (Flag (f - 1)) (flag-in f e))
-  acted-fits (Store f x) v e g r h = idle-fits n _ ws i (write-fits n m ws fits i l (Flag (f - 1)) x (flag-in f e) g)
-  acted-fits (Swap f old new) v e g r h = idle-fits n _ ws i (swap-fits n m ws fits i l (Flag (f - 1)) old new (flag-in f e) (omega arith))
+  acted-fits (Load f) v e g r h = idle-fits n _ ws i (read-fits n m ws fits i l (Flag (f - 1)) (flag-in m f e))
+  acted-fits (Store f x) v e g r h = idle-fits n _ ws i (write-fits n m ws fits i l (Flag (f - 1)) x (flag-in m f e) g)
+  acted-fits (Swap f old new) v e g r h = idle-fits n _ ws i (swap-fits n m ws fits i l (Flag (f - 1)) old new (flag-in m f e) (omega arith))
   acted-fits (Put w) v e g r h = place-fits n _ ws i (PutStatus (m .head .value) w) (read-fits n m ws fits i l Head tt) (fits .head .0, g)
   acted-fits Take v e g r h = place-fits n _ ws i (TakeStatus (m .tail .value)) (read-fits n m ws fits i l Tail tt) (fits .tail .0, omega arith)
   acted-fits Go v e g r h = resumed-fits (place m i) v r (fits .places i l .1) h

@@ -20,8 +20,8 @@ use Rattle.standing.specs.Stands.{inShape, shapeStands, sizesStand, firstsStand
 use Rattle.state.specs.State.{atomic, zeroAtomic, at, row, place, givenIf, firstOf}
 use Rattle.state.specs.declared.Machine.{Machine}
 use Rattle.state.specs.declared.Place.the-variants.{Idle}
+use Rattle.step.specs.Answer.{numberOf}
 use Rattle.step.specs.Limit.{most}
-use Rattle.step.specs.declared.Answer.the-variants.{Ok, Refused}
 use Rattle.view.specs.View.{zeroView, stampOf, viewStands}
 use Rattle.writes.specs.History.{recordsStand}
 use Rattle.writes.specs.declared.Write.{Write}
@@ -75,12 +75,12 @@ fresh-fits t c plain flags ws e p q =
       records = refl;
     }
 
--- where an opening answers ok, both its tests hold
+-- where an opening answers no number, both its tests hold
 opened-stands : (b d : Bool) (m : Machine) (ws : List Write) → (b ≡ true → d ≡ true → stands m ws ≡ true)
-    → openedIf b d m .answer ≡ Ok → stands (openedIf b d m .machine) ws ≡ true
+    → numberOf (openedIf b d m .answer) ≡ 0 → stands (openedIf b d m .machine) ws ≡ true
 unfolding refusedOpening
-opened-stands false d m ws f e = cc
-opened-stands true false m ws f e = cc
+opened-stands false d m ws f e = absurd (omega arith)
+opened-stands true false m ws f e = absurd (omega arith)
 opened-stands true true m ws f e = f refl refl
 
 -- A fresh machine stands, whatever list is lent.
@@ -91,15 +91,15 @@ fresh-stands t c plain flags ws e =
     (λ b d. let w = apart _ _ d in stand 0 (fresh t c plain flags) ws (fresh-fits t c plain flags ws b (w .0) (w .1))) e
 
 -- a machine with no threads does not stand
-opened-falls : (b d : Bool) (m : Machine) (ws : List Write) (n : ℕ) → openedIf b d m .answer ≡ Refused n
+opened-falls : (b d : Bool) (m : Machine) (ws : List Write) → 0 < numberOf (openedIf b d m .answer)
     → stands (openedIf b d m .machine) ws ≡ false
 unfolding refusedOpening unmoved stands sizesStand shapeStands inShape _and_
-opened-falls false d m ws n e = refl
-opened-falls true false m ws n e = refl
-opened-falls true true m ws n e = cc
+opened-falls false d m ws h = refl
+opened-falls true false m ws h = refl
+opened-falls true true m ws h = absurd (omega arith)
 
 -- What a refused opening gives does not stand.
 pub refused-falls : RefusedFalls
 unfolding openedOf
-refused-falls t c plain flags ws n e =
-    opened-falls (inShape t c (length plain) (length flags)) (weightsStand plain and weightsStand flags) (fresh t c plain flags) ws n e
+refused-falls t c plain flags ws h =
+    opened-falls (inShape t c (length plain) (length flags)) (weightsStand plain and weightsStand flags) (fresh t c plain flags) ws h

@@ -8,4 +8,6 @@ pub mod Access
 pub mod Memory
 pub mod Calls
 pub mod Kept
+pub mod Each
 pub mod Whole
+pub mod Room

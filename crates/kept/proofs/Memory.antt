@@ -4,7 +4,7 @@ use mathlib.Core.Bool.{Bool, true, false}
 use mathlib.Core.List.{List}
 use Prim.Native.Nat.{ℕ, _<_, _≤_}
 use lib.Dec.{eqb}
-use Rattle.atomic.specs.Atomic.{met, readAtomic, writeAtomic, swapIf, swappedOf}
+use Rattle.atomic.specs.Atomic.{met, told, readAtomic, writeAtomic, swapIf, swappedOf}
 use Rattle.kept.proofs.Parts.{Known, highest, atomic-at, row-fits, atomic-fits}
 use Rattle.kept.proofs.Standing.{Fits}
 use Rattle.kept.proofs.Views.{joined-stands}
@@ -15,10 +15,14 @@ use Rattle.view.specs.View.{viewStands}
 use Rattle.writes.specs.declared.Write.{Write}
 
 module _ (n : ℕ) (m : Machine) (ws : List Write) (fits : Fits n m ws) (i : ℕ) (l : i < m .shape .threads) where
-  -- the join of the thread's view and the cell's
+  -- the join of the thread's view and the cell's, as the thread gets it and as the cell does
   met-stands : (a : Name) → Known (m .shape) a → viewStands (cellsOf m) (met m i a) ≡ true
   unfolding met
   met-stands a h = joined-stands _ _ _ (fits .rows i l) (atomic-at n m ws fits a h .1)
+
+  told-stands : (a : Name) → Known (m .shape) a → viewStands (cellsOf m) (told m i a) ≡ true
+  unfolding told
+  told-stands a h = joined-stands _ _ _ (atomic-at n m ws fits a h .1) (fits .rows i l)
 
   -- an atomic read
   pub read-fits : (a : Name) → Known (m .shape) a → Fits n (readAtomic m i a) ws
@@ -28,7 +32,7 @@ module _ (n : ℕ) (m : Machine) (ws : List Write) (fits : Fits n m ws) (i : ℕ
   -- an atomic write of a value that the cell may have
   pub write-fits : (a : Name) (x : ℕ) → Known (m .shape) a → x ≤ highest (m .shape) n a → Fits n (writeAtomic m i a x) ws
   unfolding writeAtomic withRow cellsOf readAtomic
-  write-fits a x h r = atomic-fits n (withRow m i (met m i a)) ws a _ (read-fits a h) (r, met-stands a h)
+  write-fits a x h r = atomic-fits n (withRow m i (met m i a)) ws a _ (read-fits a h) (r, told-stands a h)
 
   -- a swap, won or lost
   pub swap-fits : (a : Name) (old new : ℕ) → Known (m .shape) a → new ≤ highest (m .shape) n a → Fits n (swappedOf m i a old new .machine) ws

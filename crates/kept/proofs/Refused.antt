@@ -1,10 +1,11 @@
--- What a refused step keeps, and that a number is given exactly where it is refused. Assumes nothing.
-use mathlib.Core.Path.{_≡_, refl, sym, ap, _∙_}
-use mathlib.Core.Bool.{Bool, true, false, false≢true}
+-- The number that a step is answered with, what a refused step keeps, and what a taken one counts. Assumes nothing.
+use mathlib.Core.Path.{_≡_, refl}
+use mathlib.Core.Bool.{Bool, true, false}
 use mathlib.Core.List.{List}
-use Prim.Native.Nat.{ℕ, zero, suc, _-_}
+use Prim.Native.Nat.{ℕ, zero, suc, _+_, _-_, _<_}
+use native.Mathlib.Omega.{arith}
 use Rattle.atomic.specs.Atomic.{swappedOf}
-use Rattle.kept.specs.Kept.{RefusedKeeps, RefusedNumbered, TakenCounts}
+use Rattle.kept.specs.Kept.{Numbered, RefusedKeeps, TakenCounts}
 use Rattle.machine.specs.Calls.{goesOn, looks, swaps, closes, resumed, yesIf, acted}
 use Rattle.machine.specs.Step.{takenBy, decidedBy, refusalOf, decidedOf, stepOf}
 use Rattle.state.specs.State.{place}
@@ -14,7 +15,7 @@ use Rattle.state.specs.declared.Place.{Place}
 use Rattle.state.specs.declared.Place.the-variants.{Idle, PutStatus, PutSwap, PutWrite, PutPublish, TakeStatus, TakeSwap, TakeRead, TakeFree}
 use Rattle.step.specs.Answer.{numberOf}
 use Rattle.step.specs.declared.Answer.{Answer}
-use Rattle.step.specs.declared.Answer.the-variants.{Dash, Ok, Value, Yes, No, None, Got, Refused}
+use Rattle.step.specs.declared.Answer.the-variants.{No, None}
 use Rattle.step.specs.declared.Step.{Step}
 use Rattle.step.specs.declared.Verb.{Verb}
 use Rattle.step.specs.declared.Verb.the-variants.{Get, Set, Load, Store, Swap, Put, Take, Go, GoAt}
@@ -23,25 +24,14 @@ use Rattle.writes.specs.declared.Access.{Access}
 use Rattle.writes.specs.declared.Found.{Found}
 use Rattle.writes.specs.declared.Write.{Write}
 
--- an answer that is a refusal
-abbrev refusing : Answer → Bool
-refusing Dash = false
-refusing Ok = false
-refusing (Value v) = false
-refusing Yes = false
-refusing No = false
-refusing None = false
-refusing (Got w) = false
-refusing (Refused n) = true
-
 -- a call that goes on or ends so
-goes-on : (b : Bool) (m : Machine) (i : ℕ) (p : Place) (lost : Answer) → refusing lost ≡ false → refusing (goesOn b m i p lost .answer) ≡ false
+goes-on : (b : Bool) (m : Machine) (i : ℕ) (p : Place) (lost : Answer) → numberOf lost ≡ 0 → numberOf (goesOn b m i p lost .answer) ≡ 0
 unfolding goesOn
 goes-on true m i p lost e = refl
 goes-on false m i p lost e = e
 
--- no step of a call is answered by a refusal
-resumed-taken : (m : Machine) (i : ℕ) (p : Place) (v : ℕ) → refusing (resumed m i p v .answer) ≡ false
+-- a step of a call is answered with no number
+resumed-taken : (m : Machine) (i : ℕ) (p : Place) (v : ℕ) → numberOf (resumed m i p v .answer) ≡ 0
 unfolding resumed looks swaps closes
 resumed-taken m i Idle v = refl
 resumed-taken m i (PutStatus h w) v = goes-on _ _ _ _ No refl
@@ -53,13 +43,13 @@ resumed-taken m i (TakeSwap t) v = goes-on _ _ _ _ None refl
 resumed-taken m i (TakeRead t) v = refl
 resumed-taken m i (TakeFree t w) v = refl
 
--- yes and no are no refusals
-yes-taken : (b : Bool) → refusing (yesIf b) ≡ false
+-- yes and no have no number
+yes-taken : (b : Bool) → numberOf (yesIf b) ≡ 0
 yes-taken true = refl
 yes-taken false = refl
 
--- nothing that a verb does is answered by a refusal
-acted-taken : (m : Machine) (i : ℕ) (x : Verb) (v : ℕ) → refusing (acted m i x v .answer) ≡ false
+-- what a verb does is answered with no number
+acted-taken : (m : Machine) (i : ℕ) (x : Verb) (v : ℕ) → numberOf (acted m i x v .answer) ≡ 0
 unfolding acted
 acted-taken m i (Get c t) v = refl
 acted-taken m i (Set c x t) v = refl
@@ -71,25 +61,35 @@ acted-taken m i Take v = refl
 acted-taken m i Go v = resumed-taken m i (place m i) v
 acted-taken m i (GoAt t) v = resumed-taken m i (place m i) v
 
--- what a step decides that is answered by a refusal
-decided-keeps : (r : ℕ) (m : Machine) (ws : List Write) (s : Step) (a : Access) (f : Found) (n : ℕ)
-    → decidedBy r m s a f .done .answer ≡ Refused n
-    → (decidedBy r m s a f .done .machine ≡ m) × (recorded (decidedBy r m s a f .wrote) (m .held) ws ≡ ws) × (r ≡ n)
-unfolding takenBy recorded
-decided-keeps zero m ws s a f n e = absurd (false≢true (sym (acted-taken _ _ (s .verb) _) ∙ ap refusing e))
-decided-keeps (suc r) m ws s a f n e = (refl, refl, ap numberOf e)
+-- what is decided by a number is answered with it
+decided-numbered : (r : ℕ) (m : Machine) (s : Step) (a : Access) (f : Found) → numberOf (decidedBy r m s a f .done .answer) ≡ r
+unfolding takenBy
+decided-numbered zero m s a f = acted-taken _ _ (s .verb) _
+decided-numbered (suc r) m s a f = refl
+
+-- The number that a step is answered with is that of the first refusal in order, 0 where none is given.
+pub numbered : Numbered
+unfolding stepOf decidedOf
+numbered m ws s = decided-numbered (refusalOf m ws s) m s _ _
+
+-- what is decided by a number above 0
+decided-keeps : (r : ℕ) (m : Machine) (ws : List Write) (s : Step) (a : Access) (f : Found) → 0 < r
+    → (decidedBy r m s a f .done .machine ≡ m) × (recorded (decidedBy r m s a f .wrote) (m .held) ws ≡ ws)
+unfolding recorded
+decided-keeps zero m ws s a f h = absurd (omega arith)
+decided-keeps (suc r) m ws s a f h = (refl, refl)
 
 -- A refused step gives back the same state and list.
 pub refused-keeps : RefusedKeeps
 unfolding stepOf decidedOf
-refused-keeps m ws s n e = decided-keeps (refusalOf m ws s) m ws s _ _ n e
+refused-keeps m ws s h = decided-keeps (refusalOf m ws s) m ws s _ _ (omega (arith, numbered m ws s))
 
--- A step is answered by a refusal exactly when a number is given.
-pub refused-numbered : RefusedNumbered
-unfolding stepOf decidedOf
-refused-numbered m ws s n e = rw e
+-- what is decided by the number 0
+decided-counts : (r : ℕ) (m : Machine) (s : Step) (a : Access) (f : Found) → r ≡ 0 → decidedBy r m s a f .done .machine .steps ≡ m .steps + 1
+unfolding takenBy
+decided-counts r m s a f e = rw e
 
 -- A taken step counts one step.
 pub taken-counts : TakenCounts
-unfolding stepOf decidedOf takenBy
-taken-counts m ws s e = rw e
+unfolding stepOf decidedOf
+taken-counts m ws s e = decided-counts (refusalOf m ws s) m s _ _ (omega (arith, numbered m ws s))

@@ -2,8 +2,7 @@
 use mathlib.Core.Path.{_≡_}
 use mathlib.Core.Bool.{true}
 use Prim.Native.Nat.{ℕ}
-use Rattle.machine.specs.Access.{Small}
-use Rattle.machine.specs.Step.{Sized}
+use Rattle.machine.specs.Bounds.{Small, Sized}
 use Rattle.standing.proofs.Bounds.{sizes}
 use Rattle.standing.specs.Stands.{sizesStand}
 use Rattle.state.specs.declared.Machine.{Machine}

@@ -1,6 +1,6 @@
 -- The plain access that a step makes, if it makes one. Assumes nothing.
 use mathlib.Core.List.{List}
-use Prim.Native.Nat.{ℕ, _+_, _-_, _≤_}
+use Prim.Native.Nat.{ℕ, _+_, _-_}
 use Rattle.rank.specs.Rank.{slotOf}
 use Rattle.state.specs.Fields.{withHeld}
 use Rattle.state.specs.State.{cellsOf, row, withRow, firstOf}
@@ -69,9 +69,3 @@ unfoldable pub accessed : Machine → ℕ → Access → Machine
 accessed m i NoAccess = m
 accessed m i (Reads c t) = m
 accessed m i (Writes c t v) = withHeld (withRow m i (withStamp (row m i) (c - 1) t)) (m .held + 1)
-
--- what keeps the numbers of slots' cells small
-pub record Small (s : Shape) : Type 0 where
-  pub some : 1 ≤ s .slots
-  pub slots : s .slots ≤ 16
-  pub plain : s .plain ≤ 16

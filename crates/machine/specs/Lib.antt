@@ -1,3 +1,4 @@
 pub mod Access
 pub mod Calls
 pub mod Step
+pub mod Bounds

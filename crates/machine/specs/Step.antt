@@ -1,15 +1,15 @@
 -- One step: state, list of writes and step to answer, state and list. Assumes nothing.
 use mathlib.Core.Bool.{Bool, true, false}
 use mathlib.Core.List.{List}
-use Prim.Native.Nat.{ℕ, zero, suc, _+_, _-_, _≤_}
+use Prim.Native.Nat.{ℕ, zero, suc, _+_, _-_}
 use lib.Dec.{eqb}
 use lib.ListN.{length}
-use Rattle.machine.specs.Access.{slotCell, accessOf, foundBy, accessed, Small}
+use Rattle.machine.specs.Access.{slotCell, accessOf, foundBy, accessed}
 use Rattle.machine.specs.Calls.{statusName, acted}
-use Rattle.refusal.specs.Refusal.{refusalBy}
 use Rattle.machine.specs.declared.Decided.{Decided}
 use Rattle.machine.specs.declared.Done.{Done}
 use Rattle.rank.specs.Rank.{fullStatus}
+use Rattle.refusal.specs.Refusal.{refusalBy}
 use Rattle.standing.specs.Stands.{stands}
 use Rattle.state.specs.Fields.{withSteps}
 use Rattle.state.specs.State.{place, atomicAt, firstOf}
@@ -92,9 +92,3 @@ unfoldable pub contentOf : Machine → List Write → ℕ → Answer
 contentOf m ws k =
     contentIf (stands m ws) (eqb (atomicAt m (statusName m k) .value) (fullStatus k))
     (newest (firstOf m (slotCell (m .shape) k - 1)) ws (slotCell (m .shape) k) (m .held) .value)
-
--- what keeps the counts small
-pub record Sized (m : Machine) : Type 0 where
-  pub small : Small (m .shape)
-  pub steps : m .steps ≤ 4096
-  pub held : m .held ≤ 1024

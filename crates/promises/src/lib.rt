@@ -7,7 +7,7 @@ ghost use Rattle.line.specs.Promise.{LineReadBack, LineOnlyText, LineOneText};
 ghost use Rattle.schedule.specs.Promise.{ScheduleReadBack, ScheduleOnlyText};
 ghost use Rattle.schedule.specs.Starred.{all, cases};
 ghost use Rattle.cases.specs.Cases.{playedAll, machineCases};
-ghost use Rattle.kept.specs.Kept.{RefusedKeeps, RefusedNumbered, TakenCounts, StandingKept, FreshStands, FreshWhole, WholeKept, RefusedFalls, OverRecords};
+ghost use Rattle.kept.specs.Kept.{Numbered, RefusedKeeps, TakenCounts, StandingKept, FreshStands, FreshWhole, WholeKept, RefusedFalls, OverRecords, RoomKept};
 ghost use Rattle.published.specs.Follows.{TakenFollows, AllowedTaken, OneEvent};
 ghost use Rattle.promises.specs.Writing.{WrittenBack, OnlyItsBytes, RefusedUntouched};
 
@@ -41,9 +41,9 @@ pub fn machine_cases_hold()
     ensures { λ r. ⌜ playedAll machineCases ≡ machineCases ⌝ }
 {}
 
-// A refused step gives back the same state and list, under its number; a taken one counts one step.
+// A step is answered with the number of its refusal; a refused one gives back the same state and list, a taken one counts one step.
 pub fn refused_steps_keep()
-    ensures { λ r. ⌜ RefusedKeeps × RefusedNumbered × TakenCounts ⌝ }
+    ensures { λ r. ⌜ Numbered × RefusedKeeps × TakenCounts ⌝ }
 {}
 
 // Every step leaves a standing state standing; a fresh machine stands, and a refused opening gives none.
@@ -51,9 +51,9 @@ pub fn standing_is_kept()
     ensures { λ r. ⌜ StandingKept × FreshStands × RefusedFalls ⌝ }
 {}
 
-// The lists that stand for arrays are as long as the arrays, from a fresh machine on.
-pub fn rooms_are_whole()
-    ensures { λ r. ⌜ FreshWhole × WholeKept ⌝ }
+// Room that a machine lacks is changed by no step; the lists that stand for arrays stay as long as the arrays.
+pub fn room_is_kept()
+    ensures { λ r. ⌜ RoomKept × FreshWhole × WholeKept ⌝ }
 {}
 
 // Over three lent lists of numbers, a step does what it does over the list of writes that they are.

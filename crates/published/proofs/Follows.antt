@@ -1,9 +1,10 @@
 -- A step is taken exactly when it is admitted and the published rules allow it, and then does what the rule says. Assumes nothing.
-use mathlib.Core.Path.{_≡_, refl, subst}
+use mathlib.Core.Path.{_≡_, refl, subst, sym, _∙_}
 use mathlib.Core.List.{List}
 use Prim.Native.Nat.{ℕ, _+_, _-_}
 use native.Mathlib.Omega.{arith}
 use borrow.Author.Tests.{lt-leb, le-ltb}
+use Rattle.kept.proofs.Refused.{numbered}
 use Rattle.machine.specs.Access.{slotCell, accessOf, foundBy}
 use Rattle.machine.specs.Step.{takenBy, asked, refusalOf, decidedOf, Outcome, outcome, stepOf}
 use Rattle.published.proofs.Admission.{taken-if, Fits, admitted}
@@ -41,7 +42,8 @@ made m ws s W e A F =
     (by-verb m ws (s .thread - 1) W B (omega (arith, A .thread, B .threads)) (m .steps + 1) (s .verb) (place m (s .thread - 1)) refl (A .due) (A .cell) (A .room) F)
 
 pub taken-follows : TakenFollows
-taken-follows m ws s W e =
+taken-follows m ws s W n =
+    let e : refusalOf m ws s ≡ 0 = sym (numbered m ws s) ∙ n in
     let A = admitted m ws s e in
     let M = made m ws s W e (A .0) (A .1) in
     (A .0, record { event = M .event; left = M .left; makes = M .makes; rule = M .rule; rest = M .rest; others = M .others })
@@ -80,6 +82,7 @@ module _ (m : Machine) (ws : List Write) (i k : ℕ) where
   fits (GoAt t) (TakeFree r w) e d σ U makes rule = (refl, refl)
 
 pub allowed-taken : AllowedTaken
-allowed-taken m ws s _ A P =
-    taken-if m ws s A
+allowed-taken m ws s A P =
+    numbered m ws s
+    ∙ taken-if m ws s A
     (fits m ws (s .thread - 1) (cellsOf m) (s .verb) (place m (s .thread - 1)) (P .event) (P .left) (P .store) (P .view) (P .makes) (P .rule))

@@ -5,7 +5,7 @@ use mathlib.Core.Logic.{_≢_}
 use Prim.Native.Nat.{ℕ, _-_, _<_, _≤_}
 use native.Mathlib.Omega.{arith}
 use lib.ListN.{length, getD}
-use Rattle.atomic.specs.Atomic.{met, readAtomic, writeAtomic}
+use Rattle.atomic.specs.Atomic.{told, met, readAtomic, writeAtomic}
 use Rattle.machine.specs.Access.{accessed}
 use Rattle.machine.specs.Calls.{ends}
 use Rattle.machine.specs.Step.{counted}
@@ -68,10 +68,10 @@ module _ (m : Machine) (ws : List Write) (i : ℕ) (W : Whole m) (B : Bounds (m 
   unfolding readAtomic withRow
   seen A = record { threads = refl; rows = λ j o. row-else m i j (met m i A) o }
 
-  told : (A : Name) (x : ℕ) → Alone m i (writeAtomic m i A x)
+  gave : (A : Name) (x : ℕ) → Alone m i (writeAtomic m i A x)
   unfolding writeAtomic readAtomic
-  told A x = record {
-    threads = atomic-leaves (λ s h f vs ts. ts) (readAtomic m i A) A (atomic x (met m i A)) ∙ seen A .threads;
+  gave A x = record {
+    threads = atomic-leaves (λ s h f vs ts. ts) (readAtomic m i A) A (atomic x (told m i A)) ∙ seen A .threads;
     rows = λ j o. row-written m i A x j ∙ seen A .rows j o;
   }
 
@@ -95,12 +95,12 @@ module _ (m : Machine) (ws : List Write) (i : ℕ) (W : Whole m) (B : Bounds (m 
 
   pub write-atomic : (A : Name) (t x : ℕ) (d : Code) (p : Place) (a : Answer) → Room A → Left (m .shape) p a d
       → Made m ws i (writes-at A x d) t (counted k (ends (writeAtomic m i A x) i p a)) ws
-  write-atomic A t x d p a room r = ended _ t _ d _ ws p a (write-at A x d t) (writes-atomic m ws i W B l A x room) r (told A x)
+  write-atomic A t x d p a room r = ended _ t _ d _ ws p a (write-at A x d t) (writes-atomic m ws i W B l A x room) r (gave A x)
 
   -- a swap that is won, a swap that is lost
   pub win : (A : Name) (t u x : ℕ) (c d : Code) (p : Place) (a : Answer) → Room A → atomicAt m A .value ≡ u → Left (m .shape) p a c
       → Made m ws i (swaps-at A u x c d) t (counted k (ends (writeAtomic m i A x) i p a)) ws
-  win A t u x c d p a room e r = ended _ t _ c _ ws p a (swap-won A u x c d t) (swaps-atomic m ws i W B l A u x room e) r (told A x)
+  win A t u x c d p a room e r = ended _ t _ c _ ws p a (swap-won A u x c d t) (swaps-atomic m ws i W B l A u x room e) r (gave A x)
 
   pub lose : (A : Name) (t u x : ℕ) (c d : Code) (p : Place) (a : Answer) → atomicAt m A .value ≢ u → Left (m .shape) p a d
       → Made m ws i (swaps-at A u x c d) t (counted k (ends (readAtomic m i A) i p a)) ws

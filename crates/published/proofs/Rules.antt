@@ -2,14 +2,15 @@
 use mathlib.Core.Path.{fun-ext, _≡_, refl, sym, ap, _∙_}
 use mathlib.Core.List.{List}
 use mathlib.Core.Logic.{_≢_}
-use Prim.Native.Nat.{ℕ, _-_, _<_, _≤_}
+use Prim.Native.Nat.{ℕ, _-_, _<_, _≤_, max}
 use native.Mathlib.Numerals.{add-one}
 use native.Mathlib.Omega.{arith}
 use native.Mathlib.Decide.{ℕ-discrete}
 use borrow.Author.Tests.{eq-eqb, ne-eqb}
 use lib.Dec.{ltb, eqb}
 use lib.ListN.{length, getD, set}
-use Rattle.atomic.specs.Atomic.{met, readAtomic, writeAtomic}
+use native.Mathlib.Nat.{max-comm}
+use Rattle.atomic.specs.Atomic.{told, met, readAtomic, writeAtomic}
 use Rattle.laws.proofs.Tests.{fails-left, fails-right}
 use Rattle.laws.specs.Tests.{_and_}
 use Rattle.machine.specs.Access.{accessed}
@@ -69,7 +70,7 @@ shown-else c t v b s n = go (ℕ-discrete b c)
 -- the rows that an atomic write leaves are a read's
 pub row-written : (m : Machine) (i : ℕ) (A : Name) (x j : ℕ) → row (writeAtomic m i A x) j ≡ row (readAtomic m i A) j
 unfolding writeAtomic readAtomic row
-row-written m i A x j = atomic-leaves (λ s h f vs ts. getD vs j zeroView) (readAtomic m i A) A (atomic x (met m i A))
+row-written m i A x j = atomic-leaves (λ s h f vs ts. getD vs j zeroView) (readAtomic m i A) A (atomic x (told m i A))
 
 module _ (m : Machine) (ws : List Write) (i : ℕ) (W : Whole m) (B : Bounds (m .shape)) (l : i < 8) where
   -- the rules take this machine to another by an event of thread i
@@ -136,6 +137,13 @@ module _ (m : Machine) (ws : List Write) (i : ℕ) (W : Whole m) (B : Bounds (m 
   joins-too : (A : Name) (x : ℕ) → Joined (cellsOf m) (stampsOf m i) (storeOf m ws .seen A) (stampsOf (writeAtomic m i A x) i)
   joins-too A x a o = ap (λ (v : View). stampOf v (a - 1)) (row-written m i A x i) ∙ joins A a o
 
+  -- what the cell is told is the same join
+  tells : (A : Name) (a : ℕ) → Loc (cellsOf m) a → stampOf (told m i A) (a - 1) ≡ max (stampsOf m i a) (storeOf m ws .seen A a)
+  unfolding told
+  tells A a o =
+      join-here (cellsOf m) (atomicAt m A .view) (row m i) (a - 1) (placed a o .0) (omega (arith, W .seen A, W .rows i, placed a o .1))
+      ∙ max-comm (storeOf m ws .seen A a) (stampsOf m i a)
+
   -- the cell after an atomic write: its value, and the thread's view
   replaces : (A : Name) (x : ℕ) → Room A → Replaced (cellsOf m) (storeOf m ws) A x (stampsOf (writeAtomic m i A x) i) (storeOf (writeAtomic m i A x) ws)
   unfolding writeAtomic readAtomic withRow firstOf
@@ -144,20 +152,20 @@ module _ (m : Machine) (ws : List Write) (i : ℕ) (W : Whole m) (B : Bounds (m 
       next : Machine
       next = writeAtomic m i A x
 
-      here : atomicAt next A ≡ atomic x (met m i A)
-      here = atomic-here (readAtomic m i A) A (atomic x (met m i A)) (W .flags) (W .statuses) room
+      here : atomicAt next A ≡ atomic x (told m i A)
+      here = atomic-here (readAtomic m i A) A (atomic x (told m i A)) (W .flags) (W .statuses) room
 
       seen : SameView (cellsOf m) (stampsOf next i) (storeOf next ws .seen A)
-      seen a o = ap (λ (c : Atomic). stampOf (c .view) (a - 1)) here ∙ sym (ap (λ (v : View). stampOf v (a - 1)) (row-written m i A x i) ∙ own (met m i A) a)
+      seen a o = ap (λ (c : Atomic). stampOf (c .view) (a - 1)) here ∙ tells A a o ∙ sym (joins-too A x a o)
 
       others : (D : Name) → D ≢ A → SameAt (cellsOf m) (storeOf m ws) (storeOf next ws) D
       others D n =
           same-at (cellsOf m) m next ws ws D
-          (atomic-else (readAtomic m i A) A D (atomic x (met m i A)) n ∙ atomics-same m (readAtomic m i A) refl refl refl refl D)
+          (atomic-else (readAtomic m i A) A D (atomic x (told m i A)) n ∙ atomics-same m (readAtomic m i A) refl refl refl refl D)
 
       histories : SameHistories (cellsOf m) (storeOf m ws) (storeOf next ws)
       histories a t o =
-          atomic-leaves (λ s h f vs ts. found (givenIf (ltb (a - 1) (s .plain)) (getD f (a - 1) 0)) ws a t h) (readAtomic m i A) A (atomic x (met m i A))
+          atomic-leaves (λ s h f vs ts. found (givenIf (ltb (a - 1) (s .plain)) (getD f (a - 1) 0)) ws a t h) (readAtomic m i A) A (atomic x (told m i A))
 
   -- an atomic write
   pub writes-atomic : (A : Name) (x : ℕ) → Room A → Goes (wrA A x) (writeAtomic m i A x) ws

@@ -5,16 +5,17 @@ use mathlib.Core.List.{List}
 use mathlib.Core.Logic.{_⊎_, _≢_}
 use Prim.Native.Nat.{ℕ, _-_, _<_, _≤_}
 use lib.ListN.{length}
-use Rattle.refusal.specs.Refusal.{asks, dueAt, named, greatest, full}
-use Rattle.machine.specs.Step.{asked, refusalOf, stepOf}
+use Rattle.machine.specs.Step.{asked, stepOf}
 use Rattle.published.specs.Calls.{Code, Makes, restOf, codeOf, stampIn, answers}
 use Rattle.published.specs.Memory.{Stamps, Memory, Event, Rule}
+use Rattle.refusal.specs.Refusal.{asks, dueAt, named, greatest, full}
 use Rattle.standing.specs.Stands.{stands}
 use Rattle.state.specs.State.{cellsOf, row, place, atomicAt, firstOf, Whole}
 use Rattle.state.specs.declared.Machine.{Machine}
 use Rattle.state.specs.declared.Place.{Place}
 use Rattle.state.specs.declared.Place.the-variants.{Idle}
 use Rattle.state.specs.declared.Shape.{Shape}
+use Rattle.step.specs.Answer.{numberOf}
 use Rattle.step.specs.Limit.{most}
 use Rattle.step.specs.declared.Answer.{Answer}
 use Rattle.step.specs.declared.Answer.the-variants.{Dash}
@@ -76,10 +77,10 @@ pub record Performed (m : Machine) (ws : List Write) (s : Step) : Type 0 where
 
 -- A step is taken exactly when it is admitted and the rules allow it; and then it does what the rule says.
 abbrev pub TakenFollows : Type 0
-TakenFollows = (m : Machine) (ws : List Write) (s : Step) → Whole m → refusalOf m ws s ≡ 0 → Admitted m ws s × Performed m ws s
+TakenFollows = (m : Machine) (ws : List Write) (s : Step) → Whole m → numberOf (stepOf m ws s .done .answer) ≡ 0 → Admitted m ws s × Performed m ws s
 
 abbrev pub AllowedTaken : Type 0
-AllowedTaken = (m : Machine) (ws : List Write) (s : Step) → Whole m → Admitted m ws s → Possible m ws s → refusalOf m ws s ≡ 0
+AllowedTaken = (m : Machine) (ws : List Write) (s : Step) → Admitted m ws s → Possible m ws s → numberOf (stepOf m ws s .done .answer) ≡ 0
 
 -- From one store and view, a code makes one event at a time stamp.
 abbrev pub OneEvent : Type 0

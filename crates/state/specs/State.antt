@@ -72,3 +72,4 @@ pub record Whole (m : Machine) : Type 0 where
   pub flags : length (m .flags) ≡ 8
   pub statuses : length (m .statuses) ≡ 16
   pub rows : (i : ℕ) → length (row m i .at) ≡ 32
+  pub seen : (a : Name) → length (atomicAt m a .view .at) ≡ 32
