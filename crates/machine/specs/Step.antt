@@ -25,6 +25,7 @@ use Rattle.writes.specs.declared.Found.{Found}
 use Rattle.writes.specs.declared.Found.the-variants.{Missing, Present}
 use Rattle.writes.specs.declared.Write.{Write}
 
+-- the value that a plain read answers
 abbrev pub valueOf : Found → ℕ
 valueOf Missing = 0
 valueOf (Present v) = v
@@ -41,10 +42,12 @@ takenBy m s a f = counted (m .steps + 1) (acted (accessed m (s .thread - 1) a) (
 abbrev pub refusedBy : ℕ → Machine → Decided
 refusedBy n m = record { done = record { answer = Refused n; machine = m }; wrote = NoAccess }
 
+-- what is decided of a step by the number that it is refused by, 0 for none: what it does, and the access whose write is recorded
 abbrev pub decidedBy : ℕ → Machine → Step → Access → Found → Decided
 decidedBy zero m s a f = record { done = takenBy m s a f; wrote = a }
 decidedBy (suc n) m s a f = refusedBy (suc n) m
 
+-- the plain access that the step makes
 abbrev pub asked : Machine → Step → Access
 asked m s = accessOf (m .shape) (s .verb) (place m (s .thread - 1))
 
@@ -52,6 +55,7 @@ asked m s = accessOf (m .shape) (s .verb) (place m (s .thread - 1))
 unfoldable pub refusalOf : Machine → List Write → Step → ℕ
 refusalOf m ws s = refusalBy (stands m ws) m (length ws) s (asked m s) (foundBy m ws (asked m s))
 
+-- what is decided of a step in a state, with the list that was lent
 unfoldable pub decidedOf : Machine → List Write → Step → Decided
 decidedOf m ws s = decidedBy (refusalOf m ws s) m s (asked m s) (foundBy m ws (asked m s))
 
@@ -63,6 +67,7 @@ pub record Outcome : Type 0 where
 abbrev pub outcome : Done → List Write → Outcome
 outcome d ws = record { done = d; writes = ws }
 
+-- One step, for every state, list and step: its answer, the state and the list afterwards.
 unfoldable pub stepOf : Machine → List Write → Step → Outcome
 stepOf m ws s = outcome (decidedOf m ws s .done) (recorded (decidedOf m ws s .wrote) (m .held) ws)
 
