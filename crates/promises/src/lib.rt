@@ -9,6 +9,8 @@ ghost use Rattle.schedule.specs.Starred.{all, cases};
 ghost use Rattle.cases.specs.Cases.{playedAll, machineCases};
 ghost use Rattle.kept.specs.Kept.{Numbered, RefusedKeeps, TakenCounts, StandingKept, FreshStands, FreshWhole, WholeKept, RefusedFalls, OverRecords, RoomKept};
 ghost use Rattle.published.specs.Follows.{TakenFollows, AllowedTaken, OneEvent};
+ghost use Rattle.queue.specs.Queue.{QueueHolds};
+ghost use Rattle.queue.specs.Reached.{ReachedHolds};
 ghost use Rattle.promises.specs.Writing.{WrittenBack, OnlyItsBytes, RefusedUntouched};
 
 // Each number has one text, and the readers take those texts only.
@@ -64,4 +66,15 @@ pub fn lists_are_records()
 // A step is taken exactly when it is admitted and the published rules allow it, and it does what the rule says.
 pub fn steps_follow_the_rules()
     ensures { λ r. ⌜ TakenFollows × AllowedTaken × OneEvent ⌝ }
+{}
+
+// From a fresh machine, over any steps, refused ones included: the won calls' answers are those of a plain first-in first-out list of at
+// most C weights, each rank is taken at most once and answered as put, the taker's view covers the putter's, one stamp is accepted.
+pub fn the_queue_holds()
+    ensures { λ r. ⌜ QueueHolds ⌝ }
+{}
+
+// In every state that is reached, every stamp of every view is in its cell's history, and no thread is stuck at a plain read.
+pub fn no_thread_is_stuck()
+    ensures { λ r. ⌜ ReachedHolds ⌝ }
 {}

@@ -18,6 +18,7 @@ use Rattle.line.specs.declared.Refusal.{Refusal}
 use Rattle.line.specs.declared.LineRead.{LineRead}
 use Rattle.line.specs.declared.LineRead.the-variants.{Took, Fault}
 use Rattle.schedule.specs.Sections.{judged}
+use Rattle.schedule.specs.declared.Section.{Section}
 use Rattle.schedule.specs.declared.Sections.{Sections}
 use Rattle.schedule.specs.declared.Judged.{Judged}
 use Rattle.schedule.specs.declared.Judged.the-variants.{Taken, Refused}
@@ -80,14 +81,21 @@ stepIn (HeaderLine h n) = record { thread = 0; verb = Go }
 stepIn (WeightLine w) = record { thread = 0; verb = Go }
 stepIn (StepLine s) = s
 
+-- the weights of a section, and the steps of one
+abbrev pub weightsAt : List ℕ → Section → List ℕ
+weightsAt s x = map weightIn (linesFrom (x .count) WeightDue s (x .at))
+
+abbrev pub stepsAt : List ℕ → Section → List Step
+stepsAt s x = map stepIn (linesFrom (x .count) StepDue s (x .at))
+
 unfoldable pub scheduleOf : List ℕ → Sections → Schedule
 scheduleOf s x =
     record {
       threads = x .threads;
       slots = x .slots;
-      plain = map weightIn (linesFrom (x .plain .count) WeightDue s (x .plain .at));
-      flag = map weightIn (linesFrom (x .flag .count) WeightDue s (x .flag .at));
-      steps = map stepIn (linesFrom (x .steps .count) StepDue s (x .steps .at));
+      plain = weightsAt s (x .plain);
+      flag = weightsAt s (x .flag);
+      steps = stepsAt s (x .steps);
     }
 
 -- what the reader makes of a text: a schedule, or a refusal

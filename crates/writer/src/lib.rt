@@ -9,7 +9,7 @@ ghost use mathlib.Core.List.{_∷_, []};
 ghost use Prim.Native.Nat.{_+_, _≤_, _<_};
 ghost use lib.ListN.{length};
 ghost use Rattle.number.specs.Text.{numberText, weightText};
-ghost use Rattle.number.specs.Buffer.{Wrote};
+ghost use Rattle.number.specs.Buffer.{putAt, placed, Wrote};
 ghost use Rattle.form.specs.Range.{inRange};
 ghost use Rattle.form.specs.Line.{fieldsInRange};
 ghost use Rattle.form.specs.Text.{wordText, operandText, leadText, formText, fieldsText};
@@ -44,7 +44,7 @@ fn fields_in_range(lead: Kind, f: Fields) -> bool
 }
 
 // How many bytes a word has, up to its end or a 0.
-fn word_width(w: &[u8]) -> usize
+pub fn word_width(w: &[u8]) -> usize
     ensures { λ r. ⌜ r ≡ length (wordText (now (w .entry))) ⌝ }
 {
     let mut j = 0;
@@ -100,7 +100,7 @@ fn fields_width(lead: Kind, f: Fields) -> usize
 }
 
 // The place after what was written, or the place itself where nothing was.
-fn next_or(at: usize, w: Written) -> usize
+pub fn next_or(at: usize, w: Written) -> usize
     ensures { λ r. ⌜ r ≡ nextOr at w ⌝ }
 {
     match w {
@@ -209,6 +209,16 @@ fn write_fields(buf: &mut [u8], at: usize, lead: Kind, f: Fields) -> usize
 {
     let p = write_lead(buf, at, lead, f.lead);
     write_form(buf, p, f.form, f.a, f.b, f.c)
+}
+
+// A word up to its end or a 0, at a place of a lent buffer.
+pub fn put_word(buf: &mut [u8], at: usize, w: &[u8]) -> Written
+    ensures { λ r. ⌜ (r ≡ putAt (now (buf .entry)) at (wordText (now (w .entry)))) × (now (buf .exit) ≡ placed (now (buf .entry)) at (wordText (now (w .entry)))) ⌝ }
+{
+    if number::has_room(buf, at, word_width(w)) {
+        return Written::Next(write_word(buf, at, w));
+    }
+    Written::Short
 }
 
 // A line at a place of a lent buffer.

@@ -1,0 +1,4 @@
+pub mod Words
+pub mod Inside
+pub mod Faithful
+pub mod Determined

@@ -1,0 +1,26 @@
+use native.Mathlib.Omega.{arith}
+use borrow.Author.Needs.{needs}
+use Rattle.number.proofs.Stores.{wrote-then}
+use Rattle.outside.proofs.Words.{all-written}
+use Rattle.outside.specs.Image.{wordsOf}
+use Rattle.state.specs.State.{atomicAt}
+use Rattle.outside.proofs.words_of.Statement.{statement}
+use Rattle.outside.proofs.words_of.Tie as tie
+
+returns : tie.Need-returns
+unfolding wordsOf atomicAt
+returns c =
+    let s = c .before .write-statuses .ensures in
+    let f = c .before .before .before .before .write-flags .ensures in
+    let b = c .before .before .before .before .before .before .before in
+    let t = b .write-atomic2 .ensures in
+    let h = b .before .before .before .write-atomic .ensures in
+    let d = b .before .before .before .before .before .before in
+    let r = d .write-threads .ensures in
+    let e = d .before .before .before .write-heading .ensures in
+    all-written
+    (wrote-then (wrote-then (wrote-then (wrote-then (wrote-then (e .0) (r .0)) (h .0)) (t .0)) (f .0)) (s .0))
+    (omega (arith, s .1, f .1, t .1, h .1, r .1, e .1))
+
+pub words-of-spec : {M : Type 1} → statement M
+words-of-spec = tie.close (tie.spec (λ c. search needs) (λ c κs. search needs) (λ c. search needs) (λ c κs. search needs) (λ c. search needs) (λ c κs. search needs) (λ c. search needs) (λ c κs. search needs) (λ c. search needs) (λ c κs. search needs) (λ c. search needs) (λ c κs. search needs) returns)

@@ -1,0 +1,29 @@
+use mathlib.Core.Path.{_≡_}
+use Prim.Native.Nat.{_+_}
+use native.Mathlib.Omega.{arith}
+use borrow.Author.Needs.{needs}
+use lib.ListN.{length}
+use Rattle.number.proofs.Stores.{wrote-then}
+use Rattle.outside.proofs.write_atomic.Statement.{statement}
+use Rattle.outside.proofs.write_atomic.Tie as tie
+
+long : (c : tie.Start) → length (c .args .a .view .at) ≡ 32
+long c = search needs
+
+write-words-requires-2 : tie.Need-write-words-requires-2
+write-words-requires-2 c κs =
+    let b = c .before .before .before .before in
+    omega (arith, long (b .before .before .before .before .before .before), b .write-words .ensures .next)
+
+returns : tie.Need-returns
+returns c =
+    let b = c .before .before in
+    let d = b .before .before .before .before .before in
+    let s = d .before .before .before .before .before .before in
+    let a = s .args in
+    let e : d .write-words .result ≡ a .p + 1 = d .write-words .ensures .next in
+    let f : b .write-words2 .result ≡ d .write-words .result + length (a .a .view .at) = b .write-words2 .ensures .next in
+    (wrote-then (d .write-words .ensures) (b .write-words2 .ensures), omega (arith, long s))
+
+pub write-atomic-spec : {M : Type 1} → statement M
+write-atomic-spec = tie.close (tie.spec (λ c. search needs) (λ c κs. search needs) (λ c. search needs) write-words-requires-2 (λ c. search needs) returns)

@@ -1,0 +1,4 @@
+pub mod Image
+pub mod Asked
+pub mod Call
+pub mod Promise

@@ -1,0 +1,55 @@
+use borrow.Author.Needs.{needs}
+use native.Mathlib.Omega.{arith}
+use Rattle.number.proofs.Decimal.{length-pow}
+use Rattle.printed.proofs.Laws.{spelled-short, weight-fits}
+use Rattle.printed.specs.Printed.{fieldText}
+use Rattle.printed.proofs.field_width.Statement.{statement}
+use Rattle.printed.proofs.field_width.Tie as tie
+
+enum-known-f : tie.Need-enum-known-f
+enum-known-f c = search needs
+
+word-width-requires : tie.Need-word-width-requires
+word-width-requires c κs = search needs
+
+enum-known-f-2 : tie.Need-enum-known-f-2
+enum-known-f-2 c = search needs
+
+number-width-requires : tie.Need-number-width-requires
+number-width-requires c κs = search needs
+
+enum-known-f-3 : tie.Need-enum-known-f-3
+enum-known-f-3 c = search needs
+
+cast-weight-width : tie.Need-cast-weight-width
+cast-weight-width c = search needs
+
+weight-width-requires : tie.Need-weight-width-requires
+weight-width-requires c κs = search needs
+
+returns : tie.Need-returns
+unfolding fieldText
+returns c = rw (c .before .before .f .given .1) (c .word-width .ensures, rw (c .word-width .ensures) (spelled-short _))
+
+returns-2 : tie.Need-returns-2
+unfolding fieldText
+returns-2 c = rw (c .before .before .f2 .given .1) (c .number-width .ensures, rw (c .number-width .ensures) (length-pow 19 _ (omega arith)))
+
+returns-3 : tie.Need-returns-3
+unfolding fieldText
+returns-3 c = rw (c .before .before .f3 .given .1) (c .weight-width .ensures, rw (c .weight-width .ensures) (weight-fits _ (omega arith)))
+
+pub field-width-spec : {M : Type 1} → statement M
+field-width-spec =
+    tie.close
+    (tie.spec
+    enum-known-f
+    word-width-requires
+    enum-known-f-2
+    number-width-requires
+    enum-known-f-3
+    cast-weight-width
+    weight-width-requires
+    returns
+    returns-2
+    returns-3)

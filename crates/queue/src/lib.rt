@@ -1,0 +1,1 @@
+// The queue over any run from a fresh machine; no code.

@@ -1,0 +1,6 @@
+pub mod Lines
+pub mod Page
+pub mod Runs
+pub mod Taken
+pub mod Whole
+pub mod Determined

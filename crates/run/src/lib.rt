@@ -1,0 +1,313 @@
+// A schedule's text run until its first refused step, and the report of it.
+use form::Due;
+use form::Line;
+use line::LineRead;
+use line::Refusal;
+use number::Written;
+use printed::Field;
+use printed::Printed;
+use printed::Word;
+use schedule::Judged;
+use schedule::Section;
+use schedule::Sections;
+use state::Machine;
+use step::Answer;
+use step::Step;
+use step::Verb;
+ghost use mathlib.Core.Path.{_≡_};
+ghost use Prim.Native.Nat.{_+_, _-_, _^_, _≤_};
+ghost use lib.ListN.{length, take};
+ghost use Rattle.number.specs.Buffer.{Wrote};
+ghost use Rattle.number.specs.declared.Written.the-variants.{Next};
+ghost use Rattle.opening.specs.Opening.{openedOf};
+ghost use Rattle.printed.specs.Printed.{page, putLines};
+ghost use Rattle.schedule.specs.Schedule.{weightIn, stepIn, weightsAt, stepsAt, scheduleOf};
+ghost use Rattle.step.specs.Answer.{numberOf};
+ghost use Rattle.writes.specs.Records.{records};
+ghost use Rattle.run.specs.Run.{ran};
+ghost use Rattle.run.specs.Report.{heading, textLine, rankLines, queueLines, refusedLines, runLines, runOf, reported};
+ghost use Rattle.run.specs.Buffer.{Ends, Reports};
+
+// A run that came to its end: the state, how many steps were taken, the number that a step was refused by or 0, and the place after the
+// answers' lines.
+pub struct Ended {
+    pub machine: Machine,
+    pub taken: u32,
+    pub refused: u32,
+    pub upto: Written,
+}
+
+// A report: its first line, and the place after the other lines in the buffer.
+pub struct Reported {
+    pub first: Printed,
+    pub upto: Written,
+}
+
+fn weight_in(line: Line) -> u32
+    ensures { λ r. ⌜ r ≡ weightIn line ⌝ }
+{
+    match line {
+        Line::HeaderLine(_, _) => 0,
+        Line::WeightLine(w) => w,
+        Line::StepLine(_) => 0,
+    }
+}
+
+fn step_in(line: Line) -> Step
+    ensures { λ r. ⌜ r ≡ stepIn line ⌝ }
+{
+    match line {
+        Line::HeaderLine(_, _) => Step {
+            thread: 0,
+            verb: Verb::Go,
+        },
+        Line::WeightLine(_) => Step {
+            thread: 0,
+            verb: Verb::Go,
+        },
+        Line::StepLine(s) => s,
+    }
+}
+
+fn refusal_in(a: Answer) -> u32
+    ensures { λ r. ⌜ r ≡ numberOf a ⌝ }
+{
+    match a {
+        Answer::Dash => 0,
+        Answer::Ok => 0,
+        Answer::Value { value: _ } => 0,
+        Answer::Yes => 0,
+        Answer::No => 0,
+        Answer::None => 0,
+        Answer::Got { weight: _ } => 0,
+        Answer::Refused { number } => number,
+    }
+}
+
+// The weights of a section, into a room: how many.
+fn read_weights(text: &[u8], s: Section, room: &mut [u32]) -> usize
+    requires { ⌜ length (weightsAt (now text) s) ≤ length (now room) ⌝ }
+    ensures { λ r. ⌜ Wrote (now (room .entry)) 0 (weightsAt (now (text .entry)) s) r (now (room .exit)) ⌝ }
+{
+    let mut at = s.at;
+    let mut left = s.count;
+    let mut n: usize = 0;
+    while 0 < left {
+        match line::read_line(text, at, Due::WeightDue) {
+            LineRead::Took(x, p) => {
+                room[n] = weight_in(x);
+                n = n + 1;
+                at = p;
+            }
+            LineRead::Fault(_) => {
+                return n;
+            }
+        }
+        left = left - 1;
+    }
+    n
+}
+
+// A machine opened with the first values of two rooms, so many of each.
+fn open_rooms(threads: u32, slots: u32, cells: &[u32], n: usize, flags: &[u32], f: usize) -> Machine
+    requires { ⌜ (n ≤ length (now cells)) × (f ≤ length (now flags)) ⌝ }
+    ensures { λ r. ⌜ r ≡ openedOf threads slots (take n (now (cells .entry))) (take f (now (flags .entry))) .machine ⌝ }
+{
+    let opened = opening::opening(threads, slots, &cells[..n], &flags[..f]);
+    let m = opened.machine;
+    m
+}
+
+// The machine that a text opens.
+fn open_text(text: &[u8], s: Sections) -> Machine
+    requires { ⌜ (length (weightsAt (now text) (s .plain)) ≤ 16) × (length (weightsAt (now text) (s .flag)) ≤ 8) ⌝ }
+    ensures { λ r. ⌜ r ≡ openedOf (s .threads) (s .slots) (weightsAt (now (text .entry)) (s .plain)) (weightsAt (now (text .entry)) (s .flag)) .machine ⌝ }
+{
+    let plain = s.plain;
+    let flag = s.flag;
+    let mut firsts = [0u32; 16];
+    let cells: &mut [u32] = &mut firsts;
+    let n = read_weights(text, plain, cells);
+    let mut values = [0u32; 8];
+    let flags: &mut [u32] = &mut values;
+    let f = read_weights(text, flag, flags);
+    open_rooms(s.threads, s.slots, cells, n, flags, f)
+}
+
+// The steps of a section, run: the line of each taken step is put into the buffer.
+fn run_steps(
+    text: &[u8],
+    s: Section,
+    first: Machine,
+    cells: &mut [u32],
+    stamps: &mut [u32],
+    values: &mut [u32],
+    out: &mut [u8],
+) -> Ended
+    ensures { λ r. ⌜ Ends (ran first (records (now (cells .entry)) (now (stamps .entry)) (now (values .entry))) (stepsAt (now (text .entry)) s)) (now (out .entry)) r (now (out .exit)) (records (now (cells .exit)) (now (stamps .exit)) (now (values .exit))) ⌝ }
+{
+    let mut m = first;
+    let mut upto = Written::Next(0);
+    let mut taken: u32 = 0;
+    let mut at = s.at;
+    let mut left = s.count;
+    while 0 < left {
+        match line::read_line(text, at, Due::StepDue) {
+            LineRead::Took(x, p) => {
+                let asked = step_in(x);
+                let done = machine::step(m, cells, stamps, values, asked);
+                let a = done.answer;
+                let n = refusal_in(a);
+                if n != 0 {
+                    return Ended {
+                        machine: m,
+                        taken,
+                        refused: n,
+                        upto,
+                    };
+                }
+                m = done.machine;
+                upto = printed::put_next(out, upto, printed::answer_line(asked.thread, a));
+                taken = taken + 1;
+                at = p;
+            }
+            LineRead::Fault(_) => {
+                return Ended {
+                    machine: m,
+                    taken,
+                    refused: 0,
+                    upto,
+                };
+            }
+        }
+        left = left - 1;
+    }
+    Ended {
+        machine: m,
+        taken,
+        refused: 0,
+        upto,
+    }
+}
+
+// A word and a count.
+fn count_line(w: Word, n: u32) -> Printed
+    ensures { λ r. ⌜ r ≡ heading w n ⌝ }
+{
+    Printed::Two(Field::Says(w), Field::Counts(n as u64))
+}
+
+fn text_line(r: Refusal) -> Printed
+    ensures { λ p. ⌜ p ≡ textLine r ⌝ }
+{
+    let n = line::number_of(r);
+    let at = line::place_of(r);
+    Printed::Three(
+        Field::Says(Word::Text),
+        Field::Counts(n as u64),
+        Field::Counts(at as u64),
+    )
+}
+
+fn ranks_between(tail: u32, head: u32) -> u32
+    ensures { λ r. ⌜ (r ≡ head - tail) × (tail + r ≤ 2 ^ 32) ⌝ }
+{
+    if tail < head {
+        return head - tail;
+    }
+    0
+}
+
+// What the queue holds, a line for each rank from one on.
+fn put_ranks(
+    m: Machine,
+    cells: &[u32],
+    stamps: &[u32],
+    values: &[u32],
+    count: u32,
+    out: &mut [u8],
+    upto: Written,
+) -> Written
+    requires { ⌜ m .tail .value + count ≤ 2 ^ 32 ⌝ }
+    ensures { λ r. ⌜ page r (now (out .exit)) ≡ putLines (page upto (now (out .entry))) (rankLines m (records (now (cells .entry)) (now (stamps .entry)) (now (values .entry))) count (m .tail .value)) ⌝ }
+{
+    let tail = m.tail;
+    let first = tail.value;
+    let mut w = upto;
+    let mut left = count;
+    while 0 < left {
+        let k = first + (count - left);
+        let a = machine::content(m, cells, stamps, values, k);
+        w = printed::put_next(out, w, printed::answer_line(k, a));
+        left = left - 1;
+    }
+    w
+}
+
+fn put_queue(
+    m: Machine,
+    cells: &[u32],
+    stamps: &[u32],
+    values: &[u32],
+    out: &mut [u8],
+    upto: Written,
+) -> Written
+    ensures { λ r. ⌜ page r (now (out .exit)) ≡ putLines (page upto (now (out .entry))) (queueLines m (records (now (cells .entry)) (now (stamps .entry)) (now (values .entry)))) ⌝ }
+{
+    let head = m.head;
+    let tail = m.tail;
+    let count = ranks_between(tail.value, head.value);
+    let w = printed::put_next(out, upto, count_line(Word::Queue, count));
+    put_ranks(m, cells, stamps, values, count, out, w)
+}
+
+fn put_refused(out: &mut [u8], upto: Written, taken: u32, refused: u32) -> Written
+    ensures { λ r. ⌜ page r (now (out .exit)) ≡ putLines (page upto (now (out .entry))) (refusedLines taken refused) ⌝ }
+{
+    if refused == 0 {
+        return printed::put_next(out, upto, count_line(Word::Refused, 0));
+    }
+    let w = printed::put_next(out, upto, count_line(Word::Refused, 1));
+    let step = (taken as u64) + 1;
+    printed::put_next(
+        out,
+        w,
+        Printed::Two(Field::Counts(step), Field::Counts(refused as u64)),
+    )
+}
+
+// The report of a text whose sections were taken.
+fn report_run(text: &[u8], s: Sections, out: &mut [u8]) -> Reported
+    requires { ⌜ (length (weightsAt (now text) (s .plain)) ≤ 16) × (length (weightsAt (now text) (s .flag)) ≤ 8) ⌝ }
+    ensures { λ r. ⌜ Reports (runLines (runOf (scheduleOf (now (text .entry)) s))) (now (out .entry)) r (now (out .exit)) ⌝ }
+{
+    let mut room_a = [0u32; 1024];
+    let mut room_b = [0u32; 1024];
+    let mut room_c = [0u32; 1024];
+    let cells: &mut [u32] = &mut room_a;
+    let stamps: &mut [u32] = &mut room_b;
+    let values: &mut [u32] = &mut room_c;
+    let steps = s.steps;
+    let opened = open_text(text, s);
+    let ended = run_steps(text, steps, opened, cells, stamps, values, out);
+    let m = ended.machine;
+    let answered = ended.upto;
+    let queued = put_queue(m, cells, stamps, values, out, answered);
+    let upto = put_refused(out, queued, ended.taken, ended.refused);
+    let first = count_line(Word::Answers, ended.taken);
+    Reported { first, upto }
+}
+
+// The report of any text: its first line, and the other lines in a lent buffer.
+pub fn report(text: &[u8], out: &mut [u8]) -> Reported
+    ensures { λ r. ⌜ Reports (reported (now (text .entry))) (now (out .entry)) r (now (out .exit)) ⌝ }
+{
+    match schedule::judge(text) {
+        Judged::Taken(s) => report_run(text, s, out),
+        Judged::Refused(r) => {
+            let first = text_line(r);
+            let upto = Written::Next(0);
+            Reported { first, upto }
+        }
+    }
+}

@@ -1,0 +1,10 @@
+//! An independent schedule runner, written from document 01 alone.
+
+pub mod damage;
+pub mod image;
+pub mod machine;
+pub mod random;
+pub mod report;
+pub mod schedules;
+pub mod states;
+pub mod text;
