@@ -4,9 +4,9 @@ use Rattle.atomic.specs.Atomic.{met, told, readAtomic, writeAtomic, swappedOf}
 use Rattle.cases.specs.Cases.{run, held, played, playedAll, listing, cellOne, published, takeInside, unpublished, machineCases}
 use Rattle.laws.specs.Lists.{filled}
 use Rattle.laws.specs.Tests.{_and_, _or_, allBelow}
-use Rattle.machine.specs.Access.{slotCell, foundBy, accessed}
-use Rattle.machine.specs.Calls.{goesOn, looks, swaps, closes, resumed, acted}
-use Rattle.machine.specs.Step.{takenBy, refusalOf, decidedOf, stepOf, contentOf}
+use Rattle.rules.specs.Access.{slotCell, foundBy, accessed}
+use Rattle.rules.specs.Calls.{goesOn, looks, swaps, closes, resumed, acted}
+use Rattle.rules.specs.Step.{takenBy, refusalOf, decidedOf, stepOf, contentOf}
 use Rattle.opening.specs.Opening.{weightsStand, givenRoom, flagsRoom, statusesRoom, unmoved, fresh, openedOf}
 use Rattle.rank.specs.Rank.{slotOf, nextRank, freeStatus, fullStatus, lapped}
 use Rattle.refusal.specs.Refusal.{among, refusalBy}

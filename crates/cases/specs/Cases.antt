@@ -2,7 +2,7 @@
 use mathlib.Core.List.{List, [], _∷_}
 use Prim.Native.Nat.{ℕ, zero, suc, _-_}
 use lib.ListN.{replicate}
-use Rattle.machine.specs.Step.{stepOf, contentOf}
+use Rattle.rules.specs.Step.{stepOf, contentOf}
 use Rattle.opening.specs.Opening.{openedOf}
 use Rattle.state.specs.declared.Machine.{Machine}
 use Rattle.step.specs.declared.Answer.{Answer}

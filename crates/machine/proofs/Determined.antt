@@ -2,7 +2,7 @@
 use mathlib.Core.Path.{_≡_, ap}
 use denote.Ref.{now}
 use Rattle.laws.proofs.Determined.{determined, OneResult}
-use Rattle.machine.specs.Step.{Over}
+use Rattle.rules.specs.Step.{Over}
 use Rattle.machine.proofs.step.Reads as step
 use Rattle.machine.proofs.content.Reads as content
 

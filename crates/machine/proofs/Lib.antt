@@ -1,4 +1,3 @@
-pub mod Accessed
 pub mod Sizes
 pub mod Over
 pub mod Determined

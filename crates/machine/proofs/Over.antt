@@ -5,10 +5,10 @@ use mathlib.Core.List.{List}
 use Prim.Native.Nat.{ℕ}
 use lib.ListN.{length}
 use Rattle.laws.specs.Tests.{_and_}
-use Rattle.machine.specs.Access.{foundBy, lookedBy}
+use Rattle.rules.specs.Access.{foundBy, lookedBy}
 use Rattle.refusal.specs.Refusal.{refusalBy}
-use Rattle.machine.specs.Step.{decidedBy, asked, refusalOf, decidedOf, afterBy, stepOver}
-use Rattle.machine.specs.declared.Decided.{Decided}
+use Rattle.rules.specs.Step.{decidedBy, asked, refusalOf, decidedOf, afterBy, stepOver}
+use Rattle.rules.specs.declared.Decided.{Decided}
 use Rattle.standing.specs.Stands.{sizesStand, partsStand, stands}
 use Rattle.state.specs.declared.Machine.{Machine}
 use Rattle.step.specs.declared.Step.{Step}

@@ -1,4 +1,1 @@
-pub mod Access
-pub mod Calls
-pub mod Step
 pub mod Bounds

@@ -7,11 +7,13 @@ ghost use lib.Dec.{eqb};
 ghost use Rattle.state.specs.State.{place, atomicAt};
 ghost use Rattle.standing.specs.Stands.{rankOf, partsStand};
 ghost use Rattle.machine.specs.Bounds.{Small, Sized};
-ghost use Rattle.machine.specs.Access.{slotCell, stampedAt, accessOf, cellAsked, stampAsked, lookedBy, accessed};
+ghost use Rattle.rules.specs.Access.{slotCell, stampedAt, accessOf, cellAsked, stampAsked, lookedBy, accessed};
 ghost use Rattle.refusal.specs.Refusal.{refusalBy};
-ghost use Rattle.machine.specs.Calls.{ends, goesOn, statusName, looks, swaps, closes, resumed, yesIf, acted};
-ghost use Rattle.machine.specs.Step.{valueOf, takenBy, decidedBy, asked, after, stepOver, contentIf, contentOf};
+ghost use Rattle.rules.specs.Calls.{ends, goesOn, statusName, looks, swaps, closes, resumed, yesIf, acted};
+ghost use Rattle.rules.specs.Step.{valueOf, takenBy, decidedBy, asked, after, stepOver, contentIf, contentOf};
 use laws::both;
+use rules::Decided;
+use rules::Done;
 use state::Machine;
 use state::Name;
 use state::Place;
@@ -133,12 +135,6 @@ fn make_access(m: Machine, i: usize, a: Access) -> Machine
 }
 
 // The two calls.
-
-// What a step does that is taken: its answer and the machine, the step not yet counted.
-pub struct Done {
-    pub answer: Answer,
-    pub machine: Machine,
-}
 
 // Thread i goes to a place and is answered.
 fn end(m: Machine, i: usize, p: Place, answer: Answer) -> Done
@@ -348,12 +344,6 @@ fn take(m: Machine, step: Step, a: Access, f: Found) -> Done
     let mut machine = done.machine;
     machine.steps = m.steps + 1;
     Done { answer, machine }
-}
-
-// What is decided of a step: its answer, the machine, and the access whose write is to be recorded.
-pub struct Decided {
-    pub done: Done,
-    pub wrote: Access,
 }
 
 fn decide(m: Machine, stand: bool, lent: usize, step: Step, a: Access, f: Found) -> Decided

@@ -1,7 +1,7 @@
 -- What one call leaves in the lists that it is lent. Assumes nothing.
 use mathlib.Core.List.{List}
 use Prim.Native.Nat.{ℕ}
-use Rattle.machine.specs.Step.{Over, stepOver}
+use Rattle.rules.specs.Step.{Over, stepOver}
 use Rattle.number.specs.Buffer.{placed}
 use Rattle.outside.specs.Asked.{stepAsked, answerWords}
 use Rattle.outside.specs.Image.{wordsOf, machineOf}

@@ -7,10 +7,10 @@ ghost use Rattle.line.specs.Promise.{LineReadBack, LineOnlyText, LineOneText};
 ghost use Rattle.schedule.specs.Promise.{ScheduleReadBack, ScheduleOnlyText};
 ghost use Rattle.schedule.specs.Starred.{all, cases};
 ghost use Rattle.cases.specs.Cases.{playedAll, machineCases};
-ghost use Rattle.kept.specs.Kept.{Numbered, RefusedKeeps, TakenCounts, StandingKept, FreshStands, FreshWhole, WholeKept, RefusedFalls, OverRecords, RoomKept};
+ghost use Rattle.rules.specs.Kept.{Numbered, RefusedKeeps, TakenCounts, StandingKept, FreshStands, FreshWhole, WholeKept, RefusedFalls, OverRecords, RoomKept};
 ghost use Rattle.published.specs.Follows.{TakenFollows, AllowedTaken, OneEvent};
-ghost use Rattle.queue.specs.Queue.{QueueHolds};
-ghost use Rattle.queue.specs.Reached.{ReachedHolds};
+ghost use Rattle.rules.specs.Queue.{QueueHolds};
+ghost use Rattle.rules.specs.Reached.{ReachedHolds};
 ghost use Rattle.promises.specs.Writing.{WrittenBack, OnlyItsBytes, RefusedUntouched};
 
 // Each number has one text, and the readers take those texts only.

@@ -5,9 +5,9 @@ use mathlib.Core.List.{List}
 use Prim.Native.Nat.{ℕ, _-_}
 use lib.ListN.{length}
 use Rattle.refusal.proofs.Passed.{passed, unrefused}
-use Rattle.machine.specs.Access.{foundBy}
+use Rattle.rules.specs.Access.{foundBy}
 use Rattle.refusal.specs.Refusal.{outdated, amiss}
-use Rattle.machine.specs.Step.{asked, refusalOf}
+use Rattle.rules.specs.Step.{asked, refusalOf}
 use Rattle.published.specs.Follows.{Admitted}
 use Rattle.standing.specs.Stands.{stands}
 use Rattle.state.specs.State.{row}

@@ -4,9 +4,9 @@ use mathlib.Core.List.{List}
 use Prim.Native.Nat.{ℕ, _+_, _-_}
 use native.Mathlib.Omega.{arith}
 use borrow.Author.Tests.{lt-leb, le-ltb}
-use Rattle.kept.proofs.Refused.{numbered}
-use Rattle.machine.specs.Access.{slotCell, accessOf, foundBy}
-use Rattle.machine.specs.Step.{takenBy, asked, refusalOf, decidedOf, Outcome, outcome, stepOf}
+use Rattle.rules.proofs.Refused.{numbered}
+use Rattle.rules.specs.Access.{slotCell, accessOf, foundBy}
+use Rattle.rules.specs.Step.{takenBy, asked, refusalOf, decidedOf, Outcome, outcome, stepOf}
 use Rattle.published.proofs.Admission.{taken-if, Fits, admitted}
 use Rattle.standing.proofs.Bounds.{bounds}
 use Rattle.published.proofs.Lines.{by-verb}

@@ -10,14 +10,14 @@ use borrow.Author.Tests.{leb-false, ltb-false, eqb-true, eqb-false}
 use lib.Dec.{eqb}
 use lib.ListN.{length}
 use Rattle.atomic.specs.Atomic.{readAtomic, swapIf, swappedOf}
-use Rattle.machine.specs.Access.{slotCell, accessOf, foundBy, accessed}
-use Rattle.machine.specs.Calls.{ends, goesOn, looks, wonTo, swaps, closes, resumed, wonAnswer, acted}
+use Rattle.rules.specs.Access.{slotCell, accessOf, foundBy, accessed}
+use Rattle.rules.specs.Calls.{ends, goesOn, looks, wonTo, swaps, closes, resumed, wonAnswer, acted}
 use Rattle.refusal.specs.Refusal.{among, asks, dueAt, named, full, present}
-use Rattle.machine.specs.Step.{valueOf, counted}
-use Rattle.machine.specs.declared.Done.{Done}
+use Rattle.rules.specs.Step.{valueOf, counted}
+use Rattle.rules.specs.declared.Done.{Done}
 use Rattle.published.proofs.Admission.{Fits}
 use Rattle.refusal.proofs.Passed.{among-some}
-use Rattle.machine.proofs.Accessed.{accessed-place}
+use Rattle.rules.proofs.Accessed.{accessed-place}
 use Rattle.laws.proofs.Tests.{neither}
 use Rattle.standing.proofs.Bounds.{Bounds}
 use Rattle.published.proofs.Made.{Made, read-plain, write-plain, read-atomic, write-atomic, win, lose}

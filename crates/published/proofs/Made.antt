@@ -6,10 +6,10 @@ use Prim.Native.Nat.{ℕ, _-_, _<_, _≤_}
 use native.Mathlib.Omega.{arith}
 use lib.ListN.{length, getD}
 use Rattle.atomic.specs.Atomic.{told, met, readAtomic, writeAtomic}
-use Rattle.machine.specs.Access.{accessed}
-use Rattle.machine.specs.Calls.{ends}
-use Rattle.machine.specs.Step.{counted}
-use Rattle.machine.specs.declared.Done.{Done}
+use Rattle.rules.specs.Access.{accessed}
+use Rattle.rules.specs.Calls.{ends}
+use Rattle.rules.specs.Step.{counted}
+use Rattle.rules.specs.declared.Done.{Done}
 use Rattle.standing.proofs.Bounds.{Bounds}
 use Rattle.published.proofs.Rules.{settled, reads-plain, writes-plain, reads-atomic, writes-atomic, swaps-atomic, row-written}
 use Rattle.state.proofs.Changed.{row-else, place-here, place-else, Room, atomic-leaves}

@@ -13,7 +13,7 @@ use native.Mathlib.Nat.{max-comm}
 use Rattle.atomic.specs.Atomic.{told, met, readAtomic, writeAtomic}
 use Rattle.laws.proofs.Tests.{fails-left, fails-right}
 use Rattle.laws.specs.Tests.{_and_}
-use Rattle.machine.specs.Access.{accessed}
+use Rattle.rules.specs.Access.{accessed}
 use Rattle.standing.proofs.Bounds.{Bounds}
 use Rattle.state.proofs.Changed.{stamp-here, stamp-else, row-here, Room, atomic-here, atomic-else, atomics-same, atomic-leaves}
 use Rattle.published.specs.Follows.{storeOf, stampsOf}

@@ -5,7 +5,7 @@ use mathlib.Core.List.{List}
 use mathlib.Core.Logic.{_⊎_, _≢_}
 use Prim.Native.Nat.{ℕ, _-_, _<_, _≤_}
 use lib.ListN.{length}
-use Rattle.machine.specs.Step.{asked, stepOf}
+use Rattle.rules.specs.Step.{asked, stepOf}
 use Rattle.published.specs.Calls.{Code, Makes, restOf, codeOf, stampIn, answers}
 use Rattle.published.specs.Memory.{Stamps, Memory, Event, Rule}
 use Rattle.refusal.specs.Refusal.{asks, dueAt, named, greatest, full}

@@ -6,13 +6,13 @@ use mathlib.Core.Path.{_∙_, _≡_, ap, refl, sym}
 use native.Mathlib.Omega.{arith}
 use Rattle.form.specs.declared.Due.the-variants.{StepDue}
 use Rattle.form.specs.declared.Line.{Line}
-use Rattle.kept.proofs.Over.{over-records}
-use Rattle.kept.proofs.Refused.{refused-keeps}
-use Rattle.kept.specs.Kept.{numberGiven}
+use Rattle.rules.proofs.Over.{over-records}
+use Rattle.rules.proofs.Refused.{refused-keeps}
+use Rattle.rules.specs.Kept.{numberGiven}
 use Rattle.line.specs.Row.{readLine}
 use Rattle.line.specs.declared.LineRead.the-variants.{Took}
-use Rattle.machine.specs.Step.{Over, after, stepOf, stepOver}
-use Rattle.machine.specs.declared.Done.{Done}
+use Rattle.rules.specs.Step.{Over, after, stepOf, stepOver}
+use Rattle.rules.specs.declared.Done.{Done}
 use Rattle.number.specs.Reading.{count}
 use Rattle.number.specs.declared.Written.{Written}
 use Rattle.number.specs.declared.Written.the-variants.{Next}

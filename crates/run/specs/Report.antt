@@ -5,7 +5,7 @@ use mathlib.Core.List.{List, [], _∷_, _++_, map}
 use lib.ListN.{length, replicate}
 use Rattle.line.specs.Refusal.{numberOf, placeOf}
 use Rattle.line.specs.declared.Refusal.{Refusal}
-use Rattle.machine.specs.Step.{contentOf}
+use Rattle.rules.specs.Step.{contentOf}
 use Rattle.opening.specs.Opening.{openedOf}
 use Rattle.printed.specs.Printed.{answerLine, linesText}
 use Rattle.printed.specs.declared.Field.the-variants.{Says, Counts}

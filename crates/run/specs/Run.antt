@@ -1,7 +1,7 @@
 -- A schedule's steps, run "until the first refused step". Assumes nothing.
 use Prim.Native.Nat.{ℕ, zero, suc}
 use mathlib.Core.List.{List, [], _∷_}
-use Rattle.machine.specs.Step.{stepOf}
+use Rattle.rules.specs.Step.{stepOf}
 use Rattle.state.specs.declared.Machine.{Machine}
 use Rattle.step.specs.Answer.{numberOf}
 use Rattle.step.specs.declared.Answer.{Answer}

@@ -1,5 +1,5 @@
 use borrow.Author.Needs.{needs}
-use Rattle.machine.specs.Calls.{acted}
+use Rattle.rules.specs.Calls.{acted}
 use Rattle.machine.proofs.act.Statement.{statement}
 use Rattle.machine.proofs.act.Tie as tie
 

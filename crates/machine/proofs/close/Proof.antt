@@ -1,5 +1,5 @@
 use borrow.Author.Needs.{needs}
-use Rattle.machine.specs.Calls.{closes}
+use Rattle.rules.specs.Calls.{closes}
 use Rattle.machine.proofs.close.Statement.{statement}
 use Rattle.machine.proofs.close.Tie as tie
 

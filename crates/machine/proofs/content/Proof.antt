@@ -3,8 +3,8 @@ use borrow.Author.Tests.{not-true, not-false}
 use borrow.Author.Needs.{needs}
 use Rattle.laws.specs.Tests.{_and_}
 use Rattle.machine.proofs.Sizes.{small}
-use Rattle.machine.specs.Access.{lookedBy}
-use Rattle.machine.specs.Step.{contentOf}
+use Rattle.rules.specs.Access.{lookedBy}
+use Rattle.rules.specs.Step.{contentOf}
 use Rattle.standing.specs.Stands.{stands}
 use Rattle.writes.specs.History.{searchOf}
 use Rattle.machine.proofs.content.Statement.{statement}

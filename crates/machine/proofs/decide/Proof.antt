@@ -4,7 +4,7 @@ use native.Mathlib.Omega.{arith}
 use borrow.Author.Needs.{needs}
 use Rattle.refusal.proofs.Passed.{passed}
 use Rattle.refusal.specs.Refusal.{refusalBy}
-use Rattle.machine.specs.Step.{refusedBy, decidedBy}
+use Rattle.rules.specs.Step.{refusedBy, decidedBy}
 use Rattle.standing.proofs.Bounds.{noted}
 use Rattle.state.specs.declared.Machine.{Machine}
 use Rattle.step.specs.declared.Step.{Step}

@@ -1,5 +1,5 @@
 use borrow.Author.Needs.{needs}
-use Rattle.machine.specs.Calls.{goesOn}
+use Rattle.rules.specs.Calls.{goesOn}
 use Rattle.machine.proofs.go_on.Statement.{statement}
 use Rattle.machine.proofs.go_on.Tie as tie
 

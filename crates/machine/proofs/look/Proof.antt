@@ -1,5 +1,5 @@
 use borrow.Author.Needs.{needs}
-use Rattle.machine.specs.Calls.{looks}
+use Rattle.rules.specs.Calls.{looks}
 use Rattle.machine.proofs.look.Statement.{statement}
 use Rattle.machine.proofs.look.Tie as tie
 

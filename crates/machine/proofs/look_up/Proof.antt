@@ -1,5 +1,5 @@
 use borrow.Author.Needs.{needs}
-use Rattle.machine.specs.Access.{lookedBy}
+use Rattle.rules.specs.Access.{lookedBy}
 use Rattle.machine.proofs.look_up.Statement.{statement}
 use Rattle.machine.proofs.look_up.Tie as tie
 

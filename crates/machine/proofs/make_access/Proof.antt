@@ -1,5 +1,5 @@
 use borrow.Author.Needs.{needs}
-use Rattle.machine.specs.Access.{accessed}
+use Rattle.rules.specs.Access.{accessed}
 use Rattle.machine.proofs.make_access.Statement.{statement}
 use Rattle.machine.proofs.make_access.Tie as tie
 

@@ -1,6 +1,6 @@
 use native.Mathlib.Omega.{arith}
 use borrow.Author.Needs.{needs}
-use Rattle.machine.specs.Calls.{resumed}
+use Rattle.rules.specs.Calls.{resumed}
 use Rattle.rank.specs.Rank.{freeStatus, fullStatus, lapped}
 use Rattle.state.specs.State.{at}
 use Rattle.machine.proofs.resume.Statement.{statement}

@@ -1,7 +1,7 @@
 use Prim.Native.Nat.{_%_, _<_}
 use native.Mathlib.Nat.{mod-lt}
 use borrow.Author.Needs.{needs}
-use Rattle.machine.specs.Access.{slotCell}
+use Rattle.rules.specs.Access.{slotCell}
 use Rattle.rank.specs.Rank.{slotOf}
 use Rattle.machine.proofs.slot_cell.Statement.{statement}
 use Rattle.machine.proofs.slot_cell.Tie as tie

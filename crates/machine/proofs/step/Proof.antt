@@ -6,7 +6,7 @@ use Rattle.laws.specs.Tests.{_and_}
 use Rattle.machine.proofs.Over.{step-over}
 use Rattle.machine.proofs.Sizes.{small, sized}
 use Rattle.refusal.specs.Refusal.{refusalBy}
-use Rattle.machine.specs.Step.{refusalOf, decidedOf, stepOver}
+use Rattle.rules.specs.Step.{refusalOf, decidedOf, stepOver}
 use Rattle.standing.specs.Stands.{stands}
 use Rattle.state.specs.State.{at}
 use Rattle.writes.specs.Records.{inCells, inStamps, inValues}

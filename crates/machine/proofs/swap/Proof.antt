@@ -1,5 +1,5 @@
 use borrow.Author.Needs.{needs}
-use Rattle.machine.specs.Calls.{swaps}
+use Rattle.rules.specs.Calls.{swaps}
 use Rattle.rank.specs.Rank.{nextRank}
 use Rattle.machine.proofs.swap.Statement.{statement}
 use Rattle.machine.proofs.swap.Tie as tie

@@ -1,7 +1,7 @@
 use Prim.Native.Nat.{_-_}
 use borrow.Author.Needs.{needs}
-use Rattle.machine.proofs.Accessed.{accessed-shape, accessed-place}
-use Rattle.machine.specs.Step.{takenBy}
+use Rattle.rules.proofs.Accessed.{accessed-shape, accessed-place}
+use Rattle.rules.specs.Step.{takenBy}
 use Rattle.machine.proofs.take.Statement.{statement}
 use Rattle.machine.proofs.take.Tie as tie
 

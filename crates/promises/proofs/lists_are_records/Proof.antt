@@ -1,4 +1,4 @@
-use Rattle.kept.proofs.Over.{over-records}
+use Rattle.rules.proofs.Over.{over-records}
 use Rattle.promises.proofs.lists_are_records.Statement.{statement}
 use Rattle.promises.proofs.lists_are_records.Tie as tie
 

@@ -1,4 +1,4 @@
-use Rattle.queue.proofs.Holds.{reached-holds}
+use Rattle.rules.proofs.Holds.{reached-holds}
 use Rattle.promises.proofs.no_thread_is_stuck.Statement.{statement}
 use Rattle.promises.proofs.no_thread_is_stuck.Tie as tie
 

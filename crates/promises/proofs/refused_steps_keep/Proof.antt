@@ -1,4 +1,4 @@
-use Rattle.kept.proofs.Refused.{numbered, refused-keeps, taken-counts}
+use Rattle.rules.proofs.Refused.{numbered, refused-keeps, taken-counts}
 use Rattle.promises.proofs.refused_steps_keep.Statement.{statement}
 use Rattle.promises.proofs.refused_steps_keep.Tie as tie
 

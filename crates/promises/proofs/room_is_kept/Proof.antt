@@ -1,5 +1,5 @@
-use Rattle.kept.proofs.Room.{room-kept}
-use Rattle.kept.proofs.Whole.{fresh-whole, whole-kept}
+use Rattle.rules.proofs.Room.{room-kept}
+use Rattle.rules.proofs.Whole.{fresh-whole, whole-kept}
 use Rattle.promises.proofs.room_is_kept.Statement.{statement}
 use Rattle.promises.proofs.room_is_kept.Tie as tie
 

@@ -1,5 +1,5 @@
-use Rattle.kept.proofs.Fresh.{fresh-stands, refused-falls}
-use Rattle.kept.proofs.Kept.{standing-kept}
+use Rattle.rules.proofs.Fresh.{fresh-stands, refused-falls}
+use Rattle.rules.proofs.Kept.{standing-kept}
 use Rattle.promises.proofs.standing_is_kept.Statement.{statement}
 use Rattle.promises.proofs.standing_is_kept.Tie as tie
 

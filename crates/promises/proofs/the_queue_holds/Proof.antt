@@ -1,4 +1,4 @@
-use Rattle.queue.proofs.Holds.{queue-holds}
+use Rattle.rules.proofs.Holds.{queue-holds}
 use Rattle.promises.proofs.the_queue_holds.Statement.{statement}
 use Rattle.promises.proofs.the_queue_holds.Tie as tie
 

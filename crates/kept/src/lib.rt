@@ -1,1 +1,0 @@
-// What every step keeps; no code.

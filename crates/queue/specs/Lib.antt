@@ -1,3 +1,0 @@
-pub mod Notes
-pub mod Queue
-pub mod Reached

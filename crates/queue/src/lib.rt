@@ -1,1 +1,0 @@
-// The queue over any run from a fresh machine; no code.

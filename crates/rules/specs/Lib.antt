@@ -1,0 +1,7 @@
+pub mod Access
+pub mod Calls
+pub mod Step
+pub mod Kept
+pub mod Notes
+pub mod Queue
+pub mod Reached
