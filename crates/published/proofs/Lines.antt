@@ -1,6 +1,6 @@
 -- Each line of a schedule makes one event of its code, at the thread's place. Assumes nothing.
 use mathlib.Core.Path.{_≡_, refl, ap}
-use mathlib.Core.Bool.{Bool, true, false, not}
+use mathlib.Core.Bool.{Bool, true, false}
 use mathlib.Core.List.{List}
 use mathlib.Core.Logic.{inl, inr}
 use Prim.Native.Nat.{ℕ, _+_, _-_, _*_, _<_, _≤_}
@@ -10,9 +10,10 @@ use borrow.Author.Tests.{leb-false, ltb-false, eqb-true, eqb-false}
 use lib.Dec.{eqb}
 use lib.ListN.{length}
 use Rattle.atomic.specs.Atomic.{readAtomic, swapIf, swappedOf}
+use Rattle.rules.proofs.Moves.{shown, hidden}
 use Rattle.rules.specs.Access.{slotCell, accessOf, foundBy, accessed}
 use Rattle.rules.specs.Calls.{ends, goesOn, looks, wonTo, swaps, closes, resumed, wonAnswer, acted}
-use Rattle.refusal.specs.Refusal.{among, asks, dueAt, named, full, present}
+use Rattle.refusal.specs.Refusal.{among, asks, dueAt, named, full}
 use Rattle.rules.specs.Step.{valueOf, counted}
 use Rattle.rules.specs.declared.Done.{Done}
 use Rattle.published.proofs.Admission.{Fits}
@@ -38,18 +39,7 @@ use Rattle.step.specs.declared.Verb.{Verb}
 use Rattle.step.specs.declared.Verb.the-variants.{Get, Set, Load, Store, Swap, Put, Take, Go, GoAt}
 use Rattle.writes.specs.Records.{recorded}
 use Rattle.writes.specs.declared.Access.the-variants.{Reads, Writes}
-use Rattle.writes.specs.declared.Found.{Found}
-use Rattle.writes.specs.declared.Found.the-variants.{Missing, Present}
 use Rattle.writes.specs.declared.Write.{Write}
-
--- a plain access whose test of refusal 13 does not hold: what it found
-shown : (f : Found) → not (present f) ≡ false → f ≡ Present (valueOf f)
-shown Missing e = cc
-shown (Present v) e = refl
-
-hidden : (f : Found) → present f ≡ false → f ≡ Missing
-hidden Missing e = refl
-hidden (Present v) e = cc
 
 module _ (m : Machine) (ws : List Write) (i : ℕ) (W : Whole m) (B : Bounds (m .shape)) (l : i < 8) (k : ℕ) where
   -- thread i has run a code up to what was done

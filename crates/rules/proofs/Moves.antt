@@ -76,7 +76,7 @@ pub shown : (f : Found) → not (present f) ≡ false → f ≡ Present (valueOf
 shown Missing e = cc
 shown (Present v) e = refl
 
-hidden : (f : Found) → present f ≡ false → f ≡ Missing
+pub hidden : (f : Found) → present f ≡ false → f ≡ Missing
 hidden Missing e = refl
 hidden (Present v) e = cc
 
