@@ -1,1 +1,1 @@
-// The starred cases and the listing, as tables of definitions; no code.
+// The starred cases and the whole listing, as one table of definitions; no code.

@@ -1,16 +1,14 @@
 // The promises about the definitions. Each function does nothing: its contract is a promise, so that the check fails where one
 // no longer holds or is no longer proved.
-ghost use mathlib.Core.Path.{_≡_};
-ghost use mathlib.Core.Bool.{true};
 ghost use Rattle.number.specs.Promise.{CountReadBack, CountOnlyText, WeightReadBack, WeightOnlyText};
 ghost use Rattle.line.specs.Promise.{LineReadBack, LineOnlyText, LineOneText};
 ghost use Rattle.schedule.specs.Promise.{ScheduleReadBack, ScheduleOnlyText};
-ghost use Rattle.schedule.specs.Starred.{all, cases};
-ghost use Rattle.cases.specs.Cases.{playedAll, machineCases};
+ghost use Rattle.cases.specs.Table.{StarredHold};
 ghost use Rattle.rules.specs.Kept.{Numbered, RefusedKeeps, TakenCounts, StandingKept, FreshStands, FreshWhole, WholeKept, RefusedFalls, OverRecords, RoomKept};
 ghost use Rattle.published.specs.Follows.{TakenFollows, AllowedTaken, OneEvent};
 ghost use Rattle.rules.specs.Queue.{QueueHolds};
 ghost use Rattle.rules.specs.Reached.{ReachedHolds};
+ghost use Rattle.outside.specs.Promise.{ImageLong, ImageFaithful};
 ghost use Rattle.promises.specs.Writing.{WrittenBack, OnlyItsBytes, RefusedUntouched};
 
 // Each number has one text, and the readers take those texts only.
@@ -33,14 +31,9 @@ pub fn lines_are_written()
     ensures { λ r. ⌜ WrittenBack × OnlyItsBytes × RefusedUntouched ⌝ }
 {}
 
-// The starred cases, as one table.
+// The starred cases and the whole listing, as one table under one statement.
 pub fn starred_cases_hold()
-    ensures { λ r. ⌜ all cases ≡ true ⌝ }
-{}
-
-// The starred cases of the machine and the whole listing, as one table.
-pub fn machine_cases_hold()
-    ensures { λ r. ⌜ playedAll machineCases ≡ machineCases ⌝ }
+    ensures { λ r. ⌜ StarredHold ⌝ }
 {}
 
 // A step is answered with the number of its refusal; a refused one gives back the same state and list, a taken one counts one step.
@@ -77,4 +70,9 @@ pub fn the_queue_holds()
 // In every state that is reached, every stamp of every view is in its cell's history, and no thread is stuck at a plain read.
 pub fn no_thread_is_stuck()
     ensures { λ r. ⌜ ReachedHolds ⌝ }
+{}
+
+// The image of a state loses nothing: a state that is read from its image is that state.
+pub fn images_are_faithful()
+    ensures { λ r. ⌜ ImageLong × ImageFaithful ⌝ }
 {}

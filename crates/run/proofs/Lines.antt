@@ -9,9 +9,8 @@ use native.Mathlib.Omega.{arith}
 use Rattle.form.specs.declared.Due.{Due}
 use Rattle.line.specs.Row.{readLine}
 use Rattle.line.specs.declared.LineRead.{LineRead}
-use Rattle.number.specs.Buffer.{Wrote, room}
+use Rattle.number.specs.Buffer.{Wrote}
 use Rattle.schedule.specs.Schedule.{also, linesFrom}
-use Rattle.state.specs.State.{at}
 
 pub from-end : (n : ℕ) (d : Due) (s : List ℕ) (at : ℕ) → n ≡ 0 → linesFrom n d s at ≡ []
 unfolding linesFrom

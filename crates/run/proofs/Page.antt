@@ -5,7 +5,6 @@ use mathlib.Core.Path.{_∙_, _≡_, ap, refl}
 use native.Mathlib.Numerals.{add-one, sub-one}
 use native.Mathlib.Omega.{arith}
 use Rattle.rules.specs.Step.{contentOf}
-use Rattle.number.specs.Reading.{count}
 use Rattle.number.specs.declared.Written.{Written}
 use Rattle.printed.specs.Printed.{Page, answerLine, page, placedNext, putLines, putNext}
 use Rattle.printed.specs.declared.Field.the-variants.{Counts}

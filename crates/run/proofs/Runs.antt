@@ -13,7 +13,6 @@ use Rattle.line.specs.Row.{readLine}
 use Rattle.line.specs.declared.LineRead.the-variants.{Took}
 use Rattle.rules.specs.Step.{Over, after, stepOf, stepOver}
 use Rattle.rules.specs.declared.Done.{Done}
-use Rattle.number.specs.Reading.{count}
 use Rattle.number.specs.declared.Written.{Written}
 use Rattle.number.specs.declared.Written.the-variants.{Next}
 use Rattle.opening.specs.Opening.{openedOf}
@@ -26,7 +25,6 @@ use Rattle.run.specs.Run.{Run, goesOnAfter, ran}
 use Rattle.run.specs.declared.Ended.{Ended}
 use Rattle.schedule.specs.Schedule.{linesFrom, scheduleOf, stepIn, stepsAt, weightsAt}
 use Rattle.schedule.specs.declared.Sections.{Sections}
-use Rattle.state.specs.State.{at}
 use Rattle.state.specs.declared.Machine.{Machine}
 use Rattle.step.specs.Answer.{numberOf}
 use Rattle.step.specs.declared.Step.{Step}

@@ -2,9 +2,7 @@
 use Prim.Native.Nat.{ℕ}
 use mathlib.Core.List.{List, map}
 use mathlib.Core.Path.{_∙_, _≡_, ap, refl, sym}
-use Rattle.atomic.specs.Atomic.{told}
 use Rattle.line.specs.declared.Refusal.{Refusal}
-use Rattle.rules.specs.Step.{after}
 use Rattle.number.specs.declared.Written.{Written}
 use Rattle.number.specs.declared.Written.the-variants.{Next}
 use Rattle.printed.specs.Printed.{Page, page, putLines}

@@ -1,4 +1,3 @@
 pub mod Sections
 pub mod Schedule
 pub mod Promise
-pub mod Starred

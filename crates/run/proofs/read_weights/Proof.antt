@@ -8,7 +8,6 @@ use mathlib.Core.Path.{_∙_, _≡_, ap, refl, sym}
 use native.Mathlib.Omega.{arith}
 use Rattle.form.specs.declared.Due.the-variants.{WeightDue}
 use Rattle.form.specs.declared.Line.{Line}
-use Rattle.number.specs.Buffer.{room}
 use Rattle.run.proofs.Lines.{from-end, from-line, stored}
 use Rattle.schedule.specs.Schedule.{linesFrom, weightIn}
 use Rattle.run.proofs.read_weights.Statement.{statement}
