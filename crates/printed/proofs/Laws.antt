@@ -28,8 +28,8 @@ length-three a b c = simp length-append
 pub weight-fits : (v : ℕ) → v < 2 ^ 32 → length (weightText v) ≤ 20
 weight-fits v h = omega (arith, weight-short v h)
 
--- no word is longer than a number may be
-pub spelled-short : (w : Word) → length (spelled w) ≤ 20
+-- no word has more than 7 letters
+pub spelled-short : (w : Word) → length (spelled w) ≤ 7
 unfolding spelled
 spelled-short word.Answers = omega arith
 spelled-short word.Queue = omega arith
@@ -41,3 +41,6 @@ spelled-short word.Yes = omega arith
 spelled-short word.No = omega arith
 spelled-short word.None = omega arith
 spelled-short word.Got = omega arith
+
+pub word-fits : (w : Word) → length (spelled w) ≤ 20
+word-fits w = omega (arith, spelled-short w)

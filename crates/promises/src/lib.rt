@@ -8,6 +8,7 @@ ghost use Rattle.rules.specs.Kept.{Numbered, RefusedKeeps, TakenCounts, Standin
 ghost use Rattle.published.specs.Follows.{TakenFollows, AllowedTaken, OneEvent};
 ghost use Rattle.rules.specs.Queue.{QueueHolds};
 ghost use Rattle.rules.specs.Reached.{ReachedHolds};
+ghost use Rattle.run.specs.Promise.{ReportShort, ReportWhole};
 ghost use Rattle.outside.specs.Promise.{ImageLong, ImageFaithful};
 ghost use Rattle.promises.specs.Writing.{WrittenBack, OnlyItsBytes, RefusedUntouched};
 
@@ -75,4 +76,9 @@ pub fn no_thread_is_stuck()
 // The image of a state loses nothing: a state that is read from its image is that state.
 pub fn images_are_faithful()
     ensures { λ r. ⌜ ImageLong × ImageFaithful ⌝ }
+{}
+
+// Every report fits the room that the program has for it, the first line 64 bytes and the others 131,072, so nothing of one is lost.
+pub fn reports_are_whole()
+    ensures { λ r. ⌜ ReportShort × ReportWhole ⌝ }
 {}

@@ -77,7 +77,7 @@ given-past i m h = rw (le-ltb i (m .shape .plain) h) (omega arith)
 
 module _ (n : ℕ) (m : Machine) (ws : List Write) (fits : Fits n m ws) where
   -- the first value of any cell
-  first-fits : (i : ℕ) → firstOf m i ≤ most
+  pub first-fits : (i : ℕ) → firstOf m i ≤ most
   unfolding firstsStand
   first-fits i = go (decLt i (m .shape .plain))
     where

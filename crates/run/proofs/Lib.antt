@@ -3,4 +3,7 @@ pub mod Page
 pub mod Runs
 pub mod Taken
 pub mod Whole
+pub mod Answers
+pub mod Comes
+pub mod Short
 pub mod Determined

@@ -1,3 +1,4 @@
 pub mod Run
 pub mod Report
 pub mod Buffer
+pub mod Promise

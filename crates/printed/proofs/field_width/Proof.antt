@@ -1,7 +1,7 @@
 use borrow.Author.Needs.{needs}
 use native.Mathlib.Omega.{arith}
 use Rattle.number.proofs.Decimal.{length-pow}
-use Rattle.printed.proofs.Laws.{spelled-short, weight-fits}
+use Rattle.printed.proofs.Laws.{weight-fits, word-fits}
 use Rattle.printed.specs.Printed.{fieldText}
 use Rattle.printed.proofs.field_width.Statement.{statement}
 use Rattle.printed.proofs.field_width.Tie as tie
@@ -29,7 +29,7 @@ weight-width-requires c κs = search needs
 
 returns : tie.Need-returns
 unfolding fieldText
-returns c = rw (c .before .before .f .given .1) (c .word-width .ensures, rw (c .word-width .ensures) (spelled-short _))
+returns c = rw (c .before .before .f .given .1) (c .word-width .ensures, rw (c .word-width .ensures) (word-fits _))
 
 returns-2 : tie.Need-returns-2
 unfolding fieldText

@@ -1,0 +1,121 @@
+-- A text is refused at a place inside it, if it is not too long. Assumes nothing.
+use Prim.Native.Nat.{ℕ, zero, suc, _≤_}
+use mathlib.Core.Bool.{true, false}
+use mathlib.Core.List.{List}
+use mathlib.Core.Logic.{⊎-elim}
+use mathlib.Core.Path.{_≡_, refl, ap}
+use native.Mathlib.Omega.{arith}
+use borrow.Author.Tests.{ltb-false}
+use lib.Dec.{ltb}
+use lib.ListN.{length}
+use Rattle.form.specs.declared.Due.{Due}
+use Rattle.form.specs.declared.Due.the-variants.{HeaderDue, StepDue, WeightDue}
+use Rattle.form.specs.declared.Header.{Header}
+use Rattle.form.specs.declared.Header.the-variants.{Flag, Plain, Shape, Slots, Steps, Threads}
+use Rattle.laws.proofs.Choice.{either}
+use Rattle.line.proofs.Inside.{line-inside}
+use Rattle.line.proofs.OnlyTexts.{line-is}
+use Rattle.line.specs.Refusal.{placeOf}
+use Rattle.line.specs.Row.{dueRow, lineRead, readLine}
+use Rattle.line.specs.declared.LineRead.{LineRead}
+use Rattle.line.specs.declared.LineRead.the-variants.{Fault, Took}
+use Rattle.line.specs.declared.Refusal.{Refusal}
+use Rattle.line.specs.declared.Row.{Row}
+use Rattle.line.specs.declared.Row.the-variants.{NotForm, RangeAt, Read}
+use Rattle.schedule.specs.Schedule.{reads, refusal}
+use Rattle.schedule.specs.Sections.{ended, foundSections, header, judged, lines, linesPast, nextLine, passedLine, sections}
+use Rattle.schedule.specs.declared.Judged.{Judged}
+use Rattle.schedule.specs.declared.Judged.the-variants.{Refused, Taken}
+use Rattle.schedule.specs.declared.Passed.{Passed}
+use Rattle.schedule.specs.declared.Passed.the-variants.{Past, Stuck}
+use Rattle.schedule.specs.declared.Sections.{Sections}
+
+-- a place up to one: where a line was read to, or where it is refused
+abbrev ReadIn : ℕ → LineRead → Type 0
+ReadIn n (Took x p) = p ≤ n
+ReadIn n (Fault r) = placeOf r ≤ n
+
+abbrev PassedIn : ℕ → Passed → Type 0
+PassedIn n (Past k p) = p ≤ n
+PassedIn n (Stuck r) = placeOf r ≤ n
+
+abbrev JudgedIn : ℕ → Judged → Type 0
+JudgedIn n (Taken x) = Unit {0}
+JudgedIn n (Refused r) = placeOf r ≤ n
+
+module _ (s : List ℕ) where
+  line-in : (d : Due) (at : ℕ) → at ≤ length s → ReadIn (length s) (readLine d s at)
+  unfolding readLine
+  line-in d at h = go (dueRow d s at) refl
+    where
+      go : (r : Row) → dueRow d s at ≡ r → ReadIn (length s) (lineRead d at r)
+      go (Read f p) e =
+          let t = line-is d s at _ p (ap (lineRead d at) e) in
+          omega (arith, t .here .next, line-inside _ s at (t .here .stands))
+      go (RangeAt n) e = h
+      go (NotForm x) e = h
+
+  passed-line-in : (r : LineRead) → ReadIn (length s) r → PassedIn (length s) (passedLine r)
+  passed-line-in (Took x p) h = h
+  passed-line-in (Fault r) h = h
+
+  header-in : (g : Header) (m : Passed) → PassedIn (length s) m → PassedIn (length s) (header g s m)
+  header-in g (Past n p) h = passed-line-in (readLine (HeaderDue g) s p) (line-in (HeaderDue g) p h)
+  header-in g (Stuck r) h = h
+
+  next-in : (r : LineRead) (go : ℕ → Passed) → ReadIn (length s) r → ((p : ℕ) → p ≤ length s → PassedIn (length s) (go p))
+      → PassedIn (length s) (nextLine r go)
+  next-in (Took x p) go h f = f p h
+  next-in (Fault r) go h f = h
+
+  past-in : (n : ℕ) (d : Due) (at : ℕ) → at ≤ length s → PassedIn (length s) (linesPast n d s at)
+  unfolding linesPast
+  past-in zero d at h = h
+  past-in (suc n) d at h = next-in (readLine d s at) (λ p. linesPast n d s p) (line-in d at h) (past-in n d)
+
+  lines-in : (d : Due) (m : Passed) → PassedIn (length s) m → PassedIn (length s) (lines d s m)
+  lines-in d (Past n p) h = past-in n d p h
+  lines-in d (Stuck r) h = h
+
+  ended-in : (m : Passed) (x : Sections) → PassedIn (length s) m → JudgedIn (length s) (ended s m x)
+  ended-in (Past n p) x h =
+      ⊎-elim
+      (λ (l : ltb p (length s) ≡ true). rw l h)
+      (λ (l : ltb p (length s) ≡ false). rw l tt)
+      (either (ltb p (length s)))
+  ended-in (Stuck r) x h = h
+
+  sections-in : JudgedIn (length s) (sections s)
+  unfolding sections
+  sections-in =
+      let shape = header Shape s (Past 0 0) in
+      let threads = header Threads s shape in
+      let slots = header Slots s threads in
+      let plain = header Plain s slots in
+      let flag = header Flag s (lines WeightDue s plain) in
+      let steps = header Steps s (lines WeightDue s flag) in
+      let in-slots = header-in Slots threads (header-in Threads shape (header-in Shape (Past 0 0) (omega arith))) in
+      let in-flag = header-in Flag (lines WeightDue s plain) (lines-in WeightDue plain (header-in Plain slots in-slots)) in
+      let in-steps = header-in Steps (lines WeightDue s flag) (lines-in WeightDue flag in-flag) in
+      ended-in (lines StepDue s steps) (foundSections threads slots plain flag steps) (lines-in StepDue steps in-steps)
+
+judged-in : (s : List ℕ) → JudgedIn 65536 (judged s)
+unfolding judged
+judged-in s =
+    ⊎-elim
+    (λ (l : ltb 65536 (length s) ≡ true). rw l (omega arith))
+    (λ (l : ltb 65536 (length s) ≡ false). rw l (go (sections s) (sections-in s) (ltb-false _ _ l)))
+    (either (ltb 65536 (length s)))
+  where
+    go : (j : Judged) → JudgedIn (length s) j → length s ≤ 65536 → JudgedIn 65536 j
+    go (Taken x) h b = tt
+    go (Refused r) h b = omega arith
+
+-- the place of a refusal
+pub refusal-placed : (s : List ℕ) (r : Refusal) → reads s ≡ refusal r → placeOf r ≤ 65536
+unfolding reads
+refusal-placed s r e = go (judged s) refl (judged-in s)
+  where
+    go : (j : Judged) → judged s ≡ j → JudgedIn 65536 j → placeOf r ≤ 65536
+    go (Taken x) q h = let z : _≡_ {A = ℕ} 0 1 = cc (rw q at e) in absurd (omega arith)
+    go (Refused f) q h = let g : f ≡ r = cc (rw q at e) in rw (← g) h
