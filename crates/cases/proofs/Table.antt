@@ -9,7 +9,7 @@ use Rattle.form.specs.Table.{forms, formAt}
 use Rattle.laws.specs.Lists.{filled}
 use Rattle.laws.specs.Tests.{_and_, _or_, allBelow}
 use Rattle.line.specs.Operand.{word, spaced}
-use Rattle.line.specs.Refusal.{upToLF, lineAt}
+use Rattle.fault.specs.Refusal.{upToLF, lineAt}
 use Rattle.line.specs.Row.{formRow, findForm, dueRow, readLine}
 use Rattle.rules.specs.Access.{slotCell, foundBy, accessed}
 use Rattle.rules.specs.Calls.{goesOn, looks, swaps, closes, resumed, acted}
@@ -22,7 +22,7 @@ use Rattle.rank.specs.Rank.{slotOf, nextRank, freeStatus, fullStatus, lapped}
 use Rattle.refusal.specs.Refusal.{among, refusalBy}
 use Rattle.run.specs.Report.{queueLines, rankLines, refusedLines, runLines, runOf, reported, reportText}
 use Rattle.run.specs.Run.{ran}
-use Rattle.schedule.specs.Schedule.{linesFrom, scheduleOf, reads}
+use Rattle.texts.specs.Schedule.{linesFrom, scheduleOf, reads}
 use Rattle.schedule.specs.Sections.{linesPast, sections, judged}
 use Rattle.standing.specs.Stands.{inShape, shapeStands, sizesStand, placeStands, threadStands, threadsStand, firstsStand, atomicStands, atomicsStand, cellsStand, partsStand, stands}
 use Rattle.state.specs.State.{cellsOf, row, withRow, place, withPlace, atomicAt, withAtomic, firstOf}

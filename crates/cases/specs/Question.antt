@@ -3,15 +3,15 @@ use Prim.Native.Nat.{ℕ, zero, suc, _-_}
 use mathlib.Core.List.{List, [], _∷_}
 use lib.ListN.{replicate}
 use Rattle.form.specs.declared.Due.the-variants.{WeightDue}
-use Rattle.line.specs.Refusal.{numberOf, placeOf, partOf}
+use Rattle.fault.specs.Refusal.{numberOf, placeOf, partOf}
 use Rattle.line.specs.Row.{readLine}
 use Rattle.line.specs.declared.LineRead.{LineRead}
 use Rattle.line.specs.declared.LineRead.the-variants.{Took, Fault}
-use Rattle.line.specs.declared.Refusal.{Refusal}
+use Rattle.fault.specs.declared.Refusal.{Refusal}
 use Rattle.rules.specs.Step.{stepOf, contentOf}
 use Rattle.opening.specs.Opening.{openedOf}
 use Rattle.run.specs.Report.{reportText}
-use Rattle.schedule.specs.Schedule.{Schedule, Outcome, schedule, refusal, weightIn, reads}
+use Rattle.texts.specs.Schedule.{Schedule, Outcome, schedule, refusal, weightIn, reads}
 use Rattle.state.specs.declared.Machine.{Machine}
 use Rattle.step.specs.declared.Answer.{Answer}
 use Rattle.step.specs.declared.Step.{Step}

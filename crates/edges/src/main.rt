@@ -1,11 +1,11 @@
 // Runs edges of the text. Each line of standard input is a mark that says what is due, a space, and the line that is to be read
 // there. A line that is taken is written back after `taken`; one that is refused is shown after its number, as it is handed back.
 // Then whole texts, each with its answer: `taken`, or number and place.
+use fault::Refusal;
 use form::Due;
 use form::Header;
 use form::Line;
 use line::LineRead;
-use line::Refusal;
 use schedule::Judged;
 use writer::LineWritten;
 
@@ -48,9 +48,9 @@ fn show_first(bytes: &[u8], n: usize) {
 }
 
 fn show_refused(text: &[u8], r: Refusal) {
-    io::print_decimal(1, line::number_of(r) as u64);
+    io::print_decimal(1, fault::number_of(r) as u64);
     io::write_all(1, b" ");
-    io::write_all(1, line::part_at_fault(text, r));
+    io::write_all(1, fault::part_at_fault(text, r));
     io::write_all(1, b"\n");
 }
 
@@ -63,7 +63,7 @@ fn show_case(text: &[u8], at: usize, mark: u8) {
 
 // The place after the line that begins at a place, and its LF; the end of a text that has none.
 fn next_line(text: &[u8], at: usize) -> usize {
-    let n = line::line_at(text, at).len();
+    let n = fault::line_at(text, at).len();
     if n < text.len() {
         if at < text.len() - n {
             return at + n + 1;
@@ -96,9 +96,9 @@ fn show_whole(name: &[u8], text: &[u8]) {
         }
         Judged::Refused(r) => {
             io::write_all(1, b" ");
-            io::print_decimal(1, line::number_of(r) as u64);
+            io::print_decimal(1, fault::number_of(r) as u64);
             io::write_all(1, b" ");
-            io::print_decimal(1, line::place_of(r) as u64);
+            io::print_decimal(1, fault::place_of(r) as u64);
             io::write_all(1, b"\n");
         }
     }

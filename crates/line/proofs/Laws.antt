@@ -1,15 +1,12 @@
 -- Laws of reading a line, one for each outcome. Assumes nothing.
-use mathlib.Core.Path.{_≡_, refl, ap}
-use mathlib.Core.Bool.{true, false}
-use mathlib.Core.List.{List, [], _∷_}
-use mathlib.Core.Logic.{⊎-elim}
-use Prim.Native.Nat.{ℕ, zero, suc, _+_, _-_, _≤_, _<_, suc-le-suc}
-use native.Mathlib.Nat.{not-suc-le-zero, add-zero, add-sub-cancel-left}
+use mathlib.Core.Path.{_≡_}
+use mathlib.Core.List.{List}
+use Prim.Native.Nat.{ℕ, zero, suc, _+_, _-_, _≤_, _<_}
+use native.Mathlib.Nat.{not-suc-le-zero}
 use native.Mathlib.Numerals.{add-one, sub-one}
 use native.Mathlib.Omega.{arith}
 use borrow.Author.Tests.{eq-eqb, ne-eqb}
-use lib.Dec.{eqb}
-use lib.ListN.{length, getD, take, drop, length-drop, drop-of-length-le}
+use lib.ListN.{length, getD, drop, drop-of-length-le}
 use lib.Seq.{drop-cons}
 use Rattle.form.specs.Line.{firstForm, formCount}
 use Rattle.form.specs.Table.{formTotal}
@@ -18,13 +15,11 @@ use Rattle.form.specs.declared.Due.the-variants.{HeaderDue, WeightDue, StepDue}
 use Rattle.form.specs.declared.Header.the-variants.{Shape, Threads, Slots, Plain, Flag, Steps}
 use Rattle.form.specs.declared.Kind.{Kind}
 use Rattle.line.specs.Operand.{word, numberAt, spaced}
-use Rattle.line.specs.Refusal.{upToLF, lineAt, lineEnd}
 use Rattle.line.specs.Row.{formRow, orElse, findForm}
 use Rattle.line.specs.declared.Operand.{Operand}
 use Rattle.line.specs.declared.Operand.the-variants.{Good, NoForm}
 use Rattle.line.specs.declared.Row.{Row}
 use Rattle.line.specs.declared.Row.the-variants.{NotForm}
-use Rattle.laws.proofs.Choice.{either}
 
 pub positive : (n : ℕ) → (n ≡ 0 → ⊥) → 0 < n
 positive n h = omega arith
@@ -66,41 +61,6 @@ pub find-here : (n i far : ℕ) (s : List ℕ) (lead : Operand) (r : Row) → 0 
 unfolding findForm
 find-here zero i far s lead r h e = absurd (not-suc-le-zero h)
 find-here (suc n) i far s lead r h e = rw (e, sub-one)
-
--- a line's end
-pub end-lf : (s : List ℕ) (i : ℕ) → i < length s → getD s i 0 ≡ 10 → lineEnd s i ≡ i
-unfolding lineEnd lineAt upToLF
-end-lf s i h e = rw (drop-cons s i 0 h, eq-eqb _ _ e) (add-zero i)
-
-pub end-more : (s : List ℕ) (i : ℕ) → i < length s → (getD s i 0 ≡ 10 → ⊥) → lineEnd s i ≡ lineEnd s (i + 1)
-unfolding lineEnd lineAt upToLF
-end-more s i h e = rw (drop-cons s i 0 h, ne-eqb _ _ e, add-one i) (omega arith)
-
-pub end-out : (s : List ℕ) (i : ℕ) → length s ≤ i → lineEnd s i ≡ i
-unfolding lineEnd lineAt upToLF
-end-out s i h = rw (drop-of-length-le s {i = i} h) (add-zero i)
-
-up-part : (l : List ℕ) → (take (length (upToLF l)) l ≡ upToLF l) × (length (upToLF l) ≤ length l)
-unfolding upToLF
-up-part [] = (refl, omega arith)
-up-part (b ∷ t) =
-    ⊎-elim
-    (λ (e : eqb b 10 ≡ true). rw e (refl, omega arith))
-    (λ (e : eqb b 10 ≡ false). rw e (ap (λ (r : List ℕ). b ∷ r) (up-part t .0), suc-le-suc (up-part t .1)))
-    (either (eqb b 10))
-
--- the line is the part of the text from its place to its end
-pub line-part : (s : List ℕ) (at : ℕ) → take (lineEnd s at - at) (drop at s) ≡ lineAt s at
-unfolding lineEnd lineAt
-line-part s at = rw add-sub-cancel-left (up-part (drop at s) .0)
-
-pub end-in : (s : List ℕ) (at : ℕ) → at ≤ length s → (at ≤ lineEnd s at) × (lineEnd s at ≤ length s)
-unfolding lineEnd lineAt
-end-in s at h = (omega arith, omega (arith, up-part (drop at s) .1, length-drop at s))
-
-pub line-out : (s : List ℕ) (at : ℕ) → length s < at → lineAt s at ≡ []
-unfolding lineAt upToLF
-line-out s at h = rw (drop-of-length-le s {i = at} (omega arith))
 
 -- the rows of every line due are rows of the table
 pub rows-in : (d : Due) → firstForm d + formCount d ≤ formTotal

@@ -1,4 +1,2 @@
 pub mod Operand
 pub mod Row
-pub mod Refusal
-pub mod Promise

@@ -14,7 +14,7 @@ use Rattle.line.specs.declared.Operand.{Operand}
 use Rattle.line.specs.declared.Operand.the-variants.{Good, OutOfRange, NoForm}
 use Rattle.line.specs.declared.Row.{Row}
 use Rattle.line.specs.declared.Row.the-variants.{Read, RangeAt, NotForm}
-use Rattle.line.specs.declared.Refusal.the-variants.{BadForm, BadRange}
+use Rattle.fault.specs.declared.Refusal.the-variants.{BadForm, BadRange}
 use Rattle.line.specs.declared.LineRead.{LineRead}
 use Rattle.line.specs.declared.LineRead.the-variants.{Took, Fault}
 

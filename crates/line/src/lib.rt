@@ -1,4 +1,5 @@
 // One line of a text, read at a place: its form first, then the ranges of its numbers from left to right.
+use fault::Refusal;
 use form::Due;
 use form::Fields;
 use form::Kind;
@@ -7,11 +8,9 @@ use form::Line;
 use number::Reading;
 ghost use mathlib.Core.Path.{_≡_};
 ghost use Prim.Native.Nat.{_+_, _≤_, _<_, max};
-ghost use lib.ListN.{length};
 ghost use Rattle.form.specs.Table.{formTotal};
 ghost use Rattle.line.specs.Operand.{word, ofReading, numberAt, spaced, operandAt, afterOperand, afterWord, spaceAfter, leadAt};
-ghost use Rattle.line.specs.Row.{chosen, endAt, endAfter, closed, formRow, findForm, dueRow, lineRead, readLine};
-ghost use Rattle.line.specs.Refusal.{numberOf, placeOf, partOf, lineAt, lineEnd};
+ghost use Rattle.line.specs.Row.{chosen, endAt, endAfter, closed, formRow, findForm, dueRow, readLine};
 
 // A number that is due at a place: its value and the place after it; or, its form right, the place of a number outside its range
 // and the place after it; or the first place at which no such number could go on.
@@ -27,15 +26,6 @@ pub enum Row {
     Read(Fields, usize),
     RangeAt(usize),
     NotForm(usize),
-}
-
-// Why a text is refused: too long; a line that is not of the form due, with its first byte and the byte at which it stopped;
-// a line with a number outside its range, with its first byte and the number's; bytes after the last section.
-pub enum Refusal {
-    TooLong,
-    BadForm { line: usize, stop: usize },
-    BadRange { line: usize, number: usize },
-    Extra(usize),
 }
 
 // A line that was due: what it says and the place after it, or why the text is refused.
@@ -299,74 +289,5 @@ pub fn read_line(text: &[u8], at: usize, due: Due) -> LineRead
             number: n,
         }),
         Row::NotForm(x) => LineRead::Fault(Refusal::BadForm { line: at, stop: x }),
-    }
-}
-
-// The paper's number of a refusal.
-pub fn number_of(r: Refusal) -> u32
-    ensures { λ n. ⌜ n ≡ numberOf r ⌝ }
-{
-    match r {
-        Refusal::TooLong => 1,
-        Refusal::BadForm { line: _, stop: _ } => 2,
-        Refusal::BadRange { line: _, number: _ } => 3,
-        Refusal::Extra(_) => 4,
-    }
-}
-
-// The place that is told with a refusal.
-pub fn place_of(r: Refusal) -> usize
-    ensures { λ p. ⌜ p ≡ placeOf r ⌝ }
-{
-    match r {
-        Refusal::TooLong => 0,
-        Refusal::BadForm { line, stop: _ } => line,
-        Refusal::BadRange { line, number: _ } => line,
-        Refusal::Extra(at) => at,
-    }
-}
-
-// The place of the first LF from a place on, or the text's length.
-fn line_end(text: &[u8], at: usize) -> usize
-    requires { ⌜ at ≤ length (now text) ⌝ }
-    ensures { λ r. ⌜ r ≡ lineEnd (now (text .entry)) at ⌝ }
-{
-    let mut i = at;
-    while i < text.len() {
-        if text[i] == 10 {
-            return i;
-        }
-        i = i + 1;
-    }
-    i
-}
-
-// The line that begins at a place, without its LF; empty past the end.
-pub fn line_at(text: &[u8], at: usize) -> &[u8]
-    ensures { λ r. ⌜ now r ≡ lineAt (now (text .entry)) at ⌝ }
-{
-    if at <= text.len() {
-        let e = line_end(text, at);
-        &text[at..e]
-    } else {
-        &text[..0]
-    }
-}
-
-// The part of the text that is at fault.
-pub fn part_at_fault(text: &[u8], r: Refusal) -> &[u8]
-    ensures { λ p. ⌜ now p ≡ partOf (now (text .entry)) r ⌝ }
-{
-    match r {
-        Refusal::TooLong => &text[..0],
-        Refusal::BadForm { line, stop: _ } => line_at(text, line),
-        Refusal::BadRange { line, number: _ } => line_at(text, line),
-        Refusal::Extra(at) => {
-            if at <= text.len() {
-                &text[at..]
-            } else {
-                &text[..0]
-            }
-        }
     }
 }

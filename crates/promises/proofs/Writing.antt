@@ -11,8 +11,8 @@ use lib.Seq.{sets, length-sets}
 use Rattle.form.specs.Line.{dueOf, lineInRange}
 use Rattle.form.specs.Text.{lineText}
 use Rattle.form.specs.declared.Line.{Line}
-use Rattle.line.proofs.Apart.{short}
-use Rattle.line.proofs.ReadBack.{line-reads}
+use Rattle.texts.proofs.Apart.{short}
+use Rattle.texts.proofs.ReadLines.{line-reads}
 use Rattle.line.specs.Row.{readLine}
 use Rattle.line.specs.declared.LineRead.the-variants.{Took}
 use Rattle.laws.proofs.Choice.{either}

@@ -1,8 +1,8 @@
 // The promises about the definitions. Each function does nothing: its contract is a promise, so that the check fails where one
 // no longer holds or is no longer proved.
 ghost use Rattle.number.specs.Promise.{CountReadBack, CountOnlyText, WeightReadBack, WeightOnlyText};
-ghost use Rattle.line.specs.Promise.{LineReadBack, LineOnlyText, LineOneText};
-ghost use Rattle.schedule.specs.Promise.{ScheduleReadBack, ScheduleOnlyText};
+ghost use Rattle.texts.specs.Promise.{LineReadBack, LineOnlyText, LineOneText};
+ghost use Rattle.texts.specs.Promise.{ScheduleReadBack, ScheduleOnlyText};
 ghost use Rattle.cases.specs.Table.{StarredHold};
 ghost use Rattle.rules.specs.Kept.{Numbered, RefusedKeeps, TakenCounts, StandingKept, FreshStands, FreshWhole, WholeKept, RefusedFalls, OverRecords, RoomKept};
 ghost use Rattle.published.specs.Follows.{TakenFollows, AllowedTaken, OneEvent};

@@ -10,7 +10,7 @@ use Rattle.form.specs.declared.Due.{Due}
 use Rattle.line.specs.Row.{readLine}
 use Rattle.line.specs.declared.LineRead.{LineRead}
 use Rattle.number.specs.Buffer.{Wrote}
-use Rattle.schedule.specs.Schedule.{also, linesFrom}
+use Rattle.texts.specs.Schedule.{also, linesFrom}
 
 pub from-end : (n : ℕ) (d : Due) (s : List ℕ) (at : ℕ) → n ≡ 0 → linesFrom n d s at ≡ []
 unfolding linesFrom

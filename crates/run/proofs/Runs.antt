@@ -23,7 +23,7 @@ use Rattle.run.specs.Buffer.{Ends}
 use Rattle.run.specs.Report.{runOf, toldLine}
 use Rattle.run.specs.Run.{Run, goesOnAfter, ran}
 use Rattle.run.specs.declared.Ended.{Ended}
-use Rattle.schedule.specs.Schedule.{linesFrom, scheduleOf, stepIn, stepsAt, weightsAt}
+use Rattle.texts.specs.Schedule.{linesFrom, scheduleOf, stepIn, stepsAt, weightsAt}
 use Rattle.schedule.specs.declared.Sections.{Sections}
 use Rattle.state.specs.declared.Machine.{Machine}
 use Rattle.step.specs.Answer.{numberOf}

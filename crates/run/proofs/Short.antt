@@ -6,9 +6,9 @@ use mathlib.Core.Bool.{true}
 use mathlib.Core.List.{List, [], _++_, map}
 use mathlib.Core.Path.{_∙_, _≡_, ap, refl}
 use native.Mathlib.Omega.{arith}
-use Rattle.line.specs.Refusal.{numberOf, placeOf}
-use Rattle.line.specs.declared.Refusal.{Refusal}
-use Rattle.line.specs.declared.Refusal.the-variants as refused-as
+use Rattle.fault.specs.Refusal.{numberOf, placeOf}
+use Rattle.fault.specs.declared.Refusal.{Refusal}
+use Rattle.fault.specs.declared.Refusal.the-variants as refused-as
 use Rattle.rules.specs.Step.{contentOf}
 use Rattle.number.proofs.Decimal.{length-pow}
 use Rattle.number.specs.Buffer.{Wrote}
@@ -26,8 +26,8 @@ use Rattle.run.proofs.Lines.{front}
 use Rattle.run.specs.Promise.{ReportShort, ReportWhole, restText}
 use Rattle.run.specs.Report.{Lines, heading, queueLines, rankLines, refusedLines, reportOn, reportText, reported, runLines, runOf, textLine, toldLine}
 use Rattle.run.specs.Run.{Run, ran}
-use Rattle.schedule.proofs.Places.{refusal-placed}
-use Rattle.schedule.specs.Schedule.{Outcome, reads, refusal, schedule}
+use Rattle.texts.proofs.Places.{refusal-placed}
+use Rattle.texts.specs.Schedule.{Outcome, reads, refusal, schedule}
 use Rattle.standing.specs.Stands.{stands}
 use Rattle.state.specs.declared.Machine.{Machine}
 use Rattle.writes.specs.Records.{noWrite}

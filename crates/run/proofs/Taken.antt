@@ -12,9 +12,9 @@ use Rattle.form.specs.Table.{formAt, forms}
 use Rattle.form.specs.declared.Header.the-variants.{Flag, Plain}
 use Rattle.form.specs.declared.Line.the-variants.{HeaderLine, WeightLine}
 use Rattle.laws.proofs.Choice.{and-left, and-right}
-use Rattle.schedule.proofs.Lines.{range-head, range-right, range-tail}
-use Rattle.schedule.proofs.OnlyTexts.{schedule-only-text}
-use Rattle.schedule.specs.Schedule.{Schedule, allInRange, linesOf, reads, schedule, scheduleOf, weightsAt}
+use Rattle.texts.proofs.Lines.{range-head, range-right, range-tail}
+use Rattle.texts.proofs.OnlySchedules.{schedule-only-text}
+use Rattle.texts.specs.Schedule.{Schedule, allInRange, linesOf, reads, schedule, scheduleOf, weightsAt}
 use Rattle.schedule.specs.Sections.{judged}
 use Rattle.schedule.specs.declared.Judged.the-variants.{Taken}
 use Rattle.schedule.specs.declared.Sections.{Sections}

@@ -2,7 +2,7 @@
 use Prim.Native.Nat.{ℕ}
 use mathlib.Core.List.{List, map}
 use mathlib.Core.Path.{_∙_, _≡_, ap, refl, sym}
-use Rattle.line.specs.declared.Refusal.{Refusal}
+use Rattle.fault.specs.declared.Refusal.{Refusal}
 use Rattle.number.specs.declared.Written.{Written}
 use Rattle.number.specs.declared.Written.the-variants.{Next}
 use Rattle.printed.specs.Printed.{Page, page, putLines}
@@ -13,7 +13,7 @@ use Rattle.run.specs.Report.{heading, queueLines, refusedLines, reported
 use Rattle.run.specs.Run.{Run}
 use Rattle.run.specs.declared.Ended.{Ended}
 use Rattle.run.specs.declared.Reported.{Reported}
-use Rattle.schedule.specs.Schedule.{reads, scheduleOf}
+use Rattle.texts.specs.Schedule.{reads, scheduleOf}
 use Rattle.schedule.specs.Sections.{judged}
 use Rattle.schedule.specs.declared.Sections.{Sections}
 use Rattle.writes.specs.declared.Write.{Write}

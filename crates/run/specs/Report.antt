@@ -3,8 +3,8 @@
 use Prim.Native.Nat.{ℕ, zero, suc, _+_, _-_}
 use mathlib.Core.List.{List, [], _∷_, _++_, map}
 use lib.ListN.{length, replicate}
-use Rattle.line.specs.Refusal.{numberOf, placeOf}
-use Rattle.line.specs.declared.Refusal.{Refusal}
+use Rattle.fault.specs.Refusal.{numberOf, placeOf}
+use Rattle.fault.specs.declared.Refusal.{Refusal}
 use Rattle.rules.specs.Step.{contentOf}
 use Rattle.opening.specs.Opening.{openedOf}
 use Rattle.printed.specs.Printed.{answerLine, linesText}
@@ -14,7 +14,7 @@ use Rattle.printed.specs.declared.Printed.the-variants.{Two, Three}
 use Rattle.printed.specs.declared.Word.{Word}
 use Rattle.printed.specs.declared.Word.the-variants.{Answers, Queue, Refused, Text}
 use Rattle.run.specs.Run.{Told, Run, ran}
-use Rattle.schedule.specs.Schedule.{Schedule, Outcome, schedule, refusal, reads}
+use Rattle.texts.specs.Schedule.{Schedule, Outcome, schedule, refusal, reads}
 use Rattle.state.specs.declared.Machine.{Machine}
 use Rattle.writes.specs.Records.{noWrite}
 use Rattle.writes.specs.declared.Write.{Write}

@@ -1,8 +1,8 @@
 // A schedule's text run until its first refused step, and the report of it.
+use fault::Refusal;
 use form::Due;
 use form::Line;
 use line::LineRead;
-use line::Refusal;
 use number::Written;
 use printed::Field;
 use printed::Printed;
@@ -21,7 +21,7 @@ ghost use Rattle.number.specs.Buffer.{Wrote};
 ghost use Rattle.number.specs.declared.Written.the-variants.{Next};
 ghost use Rattle.opening.specs.Opening.{openedOf};
 ghost use Rattle.printed.specs.Printed.{page, putLines};
-ghost use Rattle.schedule.specs.Schedule.{weightIn, stepIn, weightsAt, stepsAt, scheduleOf};
+ghost use Rattle.texts.specs.Schedule.{weightIn, stepIn, weightsAt, stepsAt, scheduleOf};
 ghost use Rattle.step.specs.Answer.{numberOf};
 ghost use Rattle.writes.specs.Records.{records};
 ghost use Rattle.run.specs.Run.{ran};
@@ -200,8 +200,8 @@ fn count_line(w: Word, n: u32) -> Printed
 fn text_line(r: Refusal) -> Printed
     ensures { λ p. ⌜ p ≡ textLine r ⌝ }
 {
-    let n = line::number_of(r);
-    let at = line::place_of(r);
+    let n = fault::number_of(r);
+    let at = fault::place_of(r);
     Printed::Three(
         Field::Says(Word::Text),
         Field::Counts(n as u64),

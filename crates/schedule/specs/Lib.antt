@@ -1,3 +1,1 @@
 pub mod Sections
-pub mod Schedule
-pub mod Promise

@@ -12,7 +12,7 @@ use Rattle.form.specs.declared.Due.the-variants.{HeaderDue, WeightDue, StepDue}
 use Rattle.form.specs.declared.Line.{Line}
 use Rattle.form.specs.declared.Line.the-variants.{HeaderLine, WeightLine, StepLine}
 use Rattle.line.specs.Row.{readLine}
-use Rattle.line.specs.declared.Refusal.the-variants.{TooLong, Extra}
+use Rattle.fault.specs.declared.Refusal.the-variants.{TooLong, Extra}
 use Rattle.line.specs.declared.LineRead.{LineRead}
 use Rattle.line.specs.declared.LineRead.the-variants.{Took, Fault}
 use Rattle.schedule.specs.declared.Section.{Section}

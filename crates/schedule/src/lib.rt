@@ -1,9 +1,9 @@
 // The whole text of a schedule: judged from the front, section by section, one line at a time.
+use fault::Refusal;
 use form::Due;
 use form::Header;
 use form::Line;
 use line::LineRead;
-use line::Refusal;
 ghost use mathlib.Core.Path.{_≡_};
 ghost use Rattle.schedule.specs.Sections.{countIn, passedLine, header, linesPast, lines, countOf, sectionOf, ended, sections, judged};
 

@@ -1,6 +1,6 @@
-use Rattle.line.proofs.OneText.{one-line}
-use Rattle.line.proofs.OnlyTexts.{line-is}
-use Rattle.line.proofs.ReadBack.{line-reads}
+use Rattle.texts.proofs.OneText.{one-line}
+use Rattle.texts.proofs.OnlyLines.{line-is}
+use Rattle.texts.proofs.ReadLines.{line-reads}
 use Rattle.promises.proofs.lines_have_one_text.Statement.{statement}
 use Rattle.promises.proofs.lines_have_one_text.Tie as tie
 

@@ -1,5 +1,5 @@
-use Rattle.schedule.proofs.OnlyTexts.{schedule-only-text}
-use Rattle.schedule.proofs.ReadBack.{schedule-read-back}
+use Rattle.texts.proofs.OnlySchedules.{schedule-only-text}
+use Rattle.texts.proofs.ReadSchedules.{schedule-read-back}
 use Rattle.promises.proofs.schedules_have_one_text.Statement.{statement}
 use Rattle.promises.proofs.schedules_have_one_text.Tie as tie
 

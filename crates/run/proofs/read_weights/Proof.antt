@@ -9,7 +9,7 @@ use native.Mathlib.Omega.{arith}
 use Rattle.form.specs.declared.Due.the-variants.{WeightDue}
 use Rattle.form.specs.declared.Line.{Line}
 use Rattle.run.proofs.Lines.{from-end, from-line, stored}
-use Rattle.schedule.specs.Schedule.{linesFrom, weightIn}
+use Rattle.texts.specs.Schedule.{linesFrom, weightIn}
 use Rattle.run.proofs.read_weights.Statement.{statement}
 use Rattle.run.proofs.read_weights.Tie as tie
 

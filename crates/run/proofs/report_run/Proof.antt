@@ -3,7 +3,7 @@ use denote.Ref.{now}
 use Rattle.run.proofs.Runs.{run-is}
 use Rattle.run.proofs.Whole.{run-report}
 use Rattle.run.specs.Report.{runOf}
-use Rattle.schedule.specs.Schedule.{scheduleOf}
+use Rattle.texts.specs.Schedule.{scheduleOf}
 use Rattle.run.proofs.report_run.Statement.{statement}
 use Rattle.run.proofs.report_run.Tie as tie
 

@@ -7,7 +7,7 @@ use native.Mathlib.Omega.{arith}
 use Rattle.run.proofs.Lines.{from-end, from-line}
 use Rattle.run.proofs.Runs.{Left, left-none, left-refused, left-taken, next-step, over}
 use Rattle.run.specs.Run.{ran}
-use Rattle.schedule.specs.Schedule.{stepsAt}
+use Rattle.texts.specs.Schedule.{stepsAt}
 use Rattle.writes.specs.Records.{records}
 use Rattle.run.proofs.run_steps.Statement.{statement}
 use Rattle.run.proofs.run_steps.Tie as tie

@@ -20,16 +20,16 @@ use Rattle.form.specs.declared.Due.the-variants.{HeaderDue, WeightDue, StepDue}
 use Rattle.form.specs.declared.Fields.{Fields}
 use Rattle.form.specs.declared.Kind.{Kind}
 use Rattle.form.specs.declared.Kind.the-variants.{Nothing, Count, Thousandths}
-use Rattle.line.proofs.Apart.{short, short-a, short-b, short-c, others}
-use Rattle.line.proofs.Lines.{Ranged, ranged, Among, among-table, line-fields, line-among}
-use Rattle.line.proofs.OnlyTexts.{Fits}
+use Rattle.texts.proofs.Apart.{short, short-a, short-b, short-c, others}
+use Rattle.texts.proofs.Fields.{Ranged, ranged, Among, among-table, line-fields, line-among}
+use Rattle.texts.proofs.OnlyLines.{Fits}
 use Rattle.line.specs.Operand.{word, numberAt, spaced, operandAt, afterOperand, spaceAfter, leadAt}
-use Rattle.line.specs.Promise.{LineReadBack}
+use Rattle.texts.specs.Promise.{LineReadBack}
 use Rattle.line.specs.Row.{closed, formRow, findForm, dueRow, readLine}
 use Rattle.line.specs.declared.Operand.{Operand}
 use Rattle.line.specs.declared.Operand.the-variants.{Good}
 use Rattle.line.specs.declared.Row.{Row}
 use Rattle.line.specs.declared.Row.the-variants.{Read, RangeAt, NotForm}
 use Rattle.laws.proofs.Choice.{either, and-right}
 use Rattle.number.proofs.Decimal.{length-snoc, length-pow}
 use Rattle.number.proofs.ReadBack.{number-reads, weight-reads}

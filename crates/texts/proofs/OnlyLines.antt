@@ -13,15 +13,15 @@ use Rattle.form.specs.Table.{wordOf, kindA, kindB, kindC}
 use Rattle.form.specs.Text.{formText, fieldsText, lineText}
 use Rattle.form.specs.declared.Fields.{Fields}
 use Rattle.form.specs.declared.Kind.{Kind}
-use Rattle.line.proofs.Lines.{Ranged, fields-ranged, Among, fields-line, due-line}
-use Rattle.line.proofs.Operands.{Formed, placeIn, after-word, lead-is, after-is}
+use Rattle.texts.proofs.Fields.{Ranged, fields-ranged, Among, fields-line, due-line}
+use Rattle.texts.proofs.Operands.{Formed, placeIn, after-word, lead-is, after-is}
 use Rattle.line.specs.Operand.{afterOperand, afterWord, leadAt}
-use Rattle.line.specs.Promise.{TakenLine, LineOnlyText}
+use Rattle.texts.specs.Promise.{TakenLine, LineOnlyText}
 use Rattle.line.specs.Row.{endAt, inOrder, chosen, finish, closed, formRow, orElse, findForm, dueRow, readLine}
 use Rattle.line.specs.declared.Operand.{Operand}
 use Rattle.line.specs.declared.Operand.the-variants.{Good, OutOfRange, NoForm}
 use Rattle.line.specs.declared.Row.{Row}
 use Rattle.line.specs.declared.Row.the-variants.{Read, RangeAt, NotForm}
 use Rattle.laws.proofs.Choice.{either}
 use Rattle.number.proofs.Standing.{here-then, here-byte}
 use Rattle.number.specs.Bytes.{Here}

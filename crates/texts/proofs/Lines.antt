@@ -12,7 +12,7 @@ use Rattle.form.specs.declared.Due.the-variants.{WeightDue, StepDue}
 use Rattle.form.specs.declared.Line.{Line}
 use Rattle.form.specs.declared.Line.the-variants.{HeaderLine, WeightLine, StepLine}
 use Rattle.laws.proofs.Choice.{and-left, and-right}
-use Rattle.schedule.specs.Schedule.{textOf, allInRange, weightIn, stepIn}
+use Rattle.texts.specs.Schedule.{textOf, allInRange, weightIn, stepIn}
 
 pub text-append : (xs ys : List Line) → textOf (xs ++ ys) ≡ textOf xs ++ textOf ys
 unfolding textOf

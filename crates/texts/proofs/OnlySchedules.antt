@@ -18,10 +18,10 @@ use Rattle.form.specs.declared.Header.{Header}
 use Rattle.form.specs.declared.Header.the-variants.{Shape, Threads, Slots, Plain, Flag, Steps}
 use Rattle.form.specs.declared.Line.{Line}
 use Rattle.form.specs.declared.Line.the-variants.{HeaderLine, WeightLine, StepLine}
-use Rattle.line.proofs.Apart.{short}
-use Rattle.line.proofs.Inside.{line-inside}
-use Rattle.line.proofs.OnlyTexts.{line-is}
-use Rattle.line.specs.Promise.{TakenLine}
+use Rattle.texts.proofs.Apart.{short}
+use Rattle.texts.proofs.Inside.{line-inside}
+use Rattle.texts.proofs.OnlyLines.{line-is}
+use Rattle.texts.specs.Promise.{TakenLine}
 use Rattle.line.specs.Row.{readLine}
 use Rattle.line.specs.declared.LineRead.{LineRead}
 use Rattle.line.specs.declared.LineRead.the-variants.{Took, Fault}
@@ -29,15 +29,15 @@ use Rattle.laws.proofs.Choice.{either, and-left, and-right}
 use Rattle.number.proofs.Standing.{here-then, here-none, stands-whole}
 use Rattle.number.specs.Bytes.{Here}
 use Rattle.number.specs.Reading.{count}
-use Rattle.schedule.proofs.Lines.{text-append, range-both, range-cons, AllDue, weights-again, steps-again}
-use Rattle.schedule.specs.Promise.{ScheduleOnlyText}
-use Rattle.schedule.specs.Schedule.{linesOf, textOf, scheduleText, allInRange, HasText, also, linesFrom, weightIn, stepIn, scheduleOf, schedule, outcome, reads}
+use Rattle.texts.proofs.Lines.{text-append, range-both, range-cons, AllDue, weights-again, steps-again}
+use Rattle.texts.specs.Promise.{ScheduleOnlyText}
+use Rattle.texts.specs.Schedule.{linesOf, textOf, scheduleText, allInRange, HasText, also, linesFrom, weightIn, stepIn, scheduleOf, schedule, outcome, reads}
 use Rattle.schedule.specs.Sections.{countIn, header, nextLine, linesPast, lines, countOf, sectionOf, ended, foundSections, sections, judged}
 use Rattle.schedule.specs.declared.Judged.{Judged}
 use Rattle.schedule.specs.declared.Judged.the-variants.{Taken, Refused}
 use Rattle.schedule.specs.declared.Passed.{Passed}
 use Rattle.schedule.specs.declared.Passed.the-variants.{Past, Stuck}
 use Rattle.schedule.specs.declared.Sections.{Sections}
 
 abbrev placeOf : Passed → ℕ
 placeOf (Past n p) = p

@@ -16,18 +16,18 @@ use Rattle.form.specs.declared.Header.{Header}
 use Rattle.form.specs.declared.Header.the-variants.{Shape, Threads, Slots, Plain, Flag, Steps}
 use Rattle.form.specs.declared.Line.{Line}
 use Rattle.form.specs.declared.Line.the-variants.{HeaderLine, WeightLine, StepLine}
-use Rattle.line.proofs.ReadBack.{line-reads}
+use Rattle.texts.proofs.ReadLines.{line-reads}
 use Rattle.line.specs.Row.{readLine}
 use Rattle.line.specs.declared.LineRead.the-variants.{Took}
 use Rattle.number.proofs.Standing.{stands-left, stands-right, stands-self}
 use Rattle.number.specs.Bytes.{Stands}
-use Rattle.schedule.proofs.Lines.{text-append, range-left, range-right, range-head, range-tail, AllDue}
-use Rattle.schedule.specs.Promise.{ScheduleReadBack}
-use Rattle.schedule.specs.Schedule.{Schedule, linesOf, textOf, scheduleText, allInRange, linesFrom, weightIn, stepIn, scheduleOf, schedule, outcome, reads}
+use Rattle.texts.proofs.Lines.{text-append, range-left, range-right, range-head, range-tail, AllDue}
+use Rattle.texts.specs.Promise.{ScheduleReadBack}
+use Rattle.texts.specs.Schedule.{Schedule, linesOf, textOf, scheduleText, allInRange, linesFrom, weightIn, stepIn, scheduleOf, schedule, outcome, reads}
 use Rattle.schedule.specs.Sections.{header, linesPast, lines, ended, foundSections, sections, judged}
 use Rattle.schedule.specs.declared.Passed.{Passed}
 use Rattle.schedule.specs.declared.Passed.the-variants.{Past}
 use Rattle.schedule.specs.declared.Sections.{Sections}
 
 header-reads : (h : Header) (n k : ℕ) (s : List ℕ) (at : ℕ) → lineInRange (HeaderLine h n) ≡ true → Stands s at (lineText (HeaderLine h n))
     → header h s (Past k at) ≡ Past n (at + length (lineText (HeaderLine h n)))

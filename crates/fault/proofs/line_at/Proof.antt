@@ -3,9 +3,9 @@ use Prim.Native.Nat.{_≤_}
 use borrow.Author.Needs.{needs}
 use lib.ListN.{length}
 use denote.Ref.{now}
-use Rattle.line.proofs.Laws.{line-part, end-in, line-out}
-use Rattle.line.proofs.line_at.Statement.{statement}
-use Rattle.line.proofs.line_at.Tie as tie
+use Rattle.fault.proofs.Laws.{line-part, end-in, line-out}
+use Rattle.fault.proofs.line_at.Statement.{statement}
+use Rattle.fault.proofs.line_at.Tie as tie
 
 line-end-requires : tie.Need-line-end-requires
 line-end-requires c κs = search needs

@@ -1,5 +1,4 @@
--- What is promised of lines: each line in range has one text, no two share one, and the reader takes those texts only.
--- Assumes nothing.
+-- What is promised of lines and schedules: each has one text, no two share one, and the reader takes those texts only. Assumes nothing.
 use Prim.Native.Nat.{ℕ, _+_}
 use mathlib.Core.Path.{_≡_}
 use mathlib.Core.Bool.{true}
@@ -10,8 +9,10 @@ use Rattle.form.specs.Line.{dueOf, lineInRange}
 use Rattle.form.specs.Text.{lineText}
 use Rattle.form.specs.declared.Due.{Due}
 use Rattle.form.specs.declared.Line.{Line}
 use Rattle.line.specs.Row.{readLine}
 use Rattle.line.specs.declared.LineRead.the-variants.{Took}
+use Prim.Native.Nat.{ℕ}
+use Rattle.texts.specs.Schedule.{Schedule, HasText, scheduleText, reads, schedule}
 
 -- where a line's text stands, it is read as that line
 abbrev pub LineReadBack : Type 0
@@ -31,3 +32,11 @@ LineOnlyText = (due : Due) (s : List ℕ) (at : ℕ) (x : Line) (next : ℕ) →
 -- no two forms share a text
 abbrev pub LineOneText : Type 0
 LineOneText = (x y : Line) → lineInRange x ≡ true → lineInRange y ≡ true → lineText x ≡ lineText y → x ≡ y
+
+-- the text of a schedule that has one is read as that schedule
+abbrev pub ScheduleReadBack : Type 0
+ScheduleReadBack = (x : Schedule) → HasText x → reads (scheduleText x) ≡ schedule x
+
+-- whatever is taken is exactly the text of the schedule that it is read as, and that schedule has a text
+abbrev pub ScheduleOnlyText : Type 0
+ScheduleOnlyText = (s : List ℕ) (x : Schedule) → reads s ≡ schedule x → (s ≡ scheduleText x) × HasText x

@@ -14,14 +14,14 @@ use Rattle.form.specs.declared.Due.the-variants.{WeightDue, StepDue}
 use Rattle.form.specs.declared.Line.{Line}
 use Rattle.form.specs.declared.Line.the-variants.{HeaderLine, WeightLine, StepLine}
 use Rattle.line.specs.Row.{readLine}
-use Rattle.line.specs.declared.Refusal.{Refusal}
+use Rattle.fault.specs.declared.Refusal.{Refusal}
 use Rattle.line.specs.declared.LineRead.{LineRead}
 use Rattle.line.specs.declared.LineRead.the-variants.{Took, Fault}
 use Rattle.schedule.specs.Sections.{judged}
 use Rattle.schedule.specs.declared.Section.{Section}
 use Rattle.schedule.specs.declared.Sections.{Sections}
 use Rattle.schedule.specs.declared.Judged.{Judged}
 use Rattle.schedule.specs.declared.Judged.the-variants.{Taken, Refused}
 
 -- threads, slots, the first values of plain cells and flags, the steps
 pub record Schedule : Type 0 where

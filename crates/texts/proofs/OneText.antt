@@ -19,10 +19,10 @@ use Rattle.form.specs.declared.Header.the-variants.{Shape, Threads, Slots, Plai
 use Rattle.form.specs.declared.Kind.the-variants.{Thousandths}
 use Rattle.form.specs.declared.Line.{Line}
 use Rattle.form.specs.declared.Line.the-variants.{HeaderLine, WeightLine, StepLine}
-use Rattle.line.proofs.Apart.{head, text-head, one-row}
-use Rattle.line.proofs.Lines.{ranged, header-row}
-use Rattle.line.proofs.ReadBack.{line-reads}
-use Rattle.line.specs.Promise.{LineOneText}
+use Rattle.texts.proofs.Apart.{head, text-head, one-row}
+use Rattle.texts.proofs.Fields.{ranged, header-row}
+use Rattle.texts.proofs.ReadLines.{line-reads}
+use Rattle.texts.specs.Promise.{LineOneText}
 use Rattle.laws.proofs.Choice.{and-right}
 use Rattle.number.proofs.Decimal.{length-pow}
 use Rattle.number.proofs.Digits.{stop-bad, number-rest}

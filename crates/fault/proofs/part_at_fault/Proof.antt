@@ -5,8 +5,8 @@ use borrow.Author.Needs.{needs}
 use lib.ListN.{length, drop, length-drop, drop-of-length-le}
 use lib.Seq.{take-all}
 use denote.Ref.{now}
-use Rattle.line.proofs.part_at_fault.Statement.{statement}
-use Rattle.line.proofs.part_at_fault.Tie as tie
+use Rattle.fault.proofs.part_at_fault.Statement.{statement}
+use Rattle.fault.proofs.part_at_fault.Tie as tie
 
 enum-told : tie.Need-enum-told
 enum-told c = search needs

@@ -13,22 +13,22 @@ use Rattle.form.specs.declared.Due.the-variants.{HeaderDue, StepDue, WeightDue}
 use Rattle.form.specs.declared.Header.{Header}
 use Rattle.form.specs.declared.Header.the-variants.{Flag, Plain, Shape, Slots, Steps, Threads}
 use Rattle.laws.proofs.Choice.{either}
-use Rattle.line.proofs.Inside.{line-inside}
-use Rattle.line.proofs.OnlyTexts.{line-is}
-use Rattle.line.specs.Refusal.{placeOf}
+use Rattle.texts.proofs.Inside.{line-inside}
+use Rattle.texts.proofs.OnlyLines.{line-is}
+use Rattle.fault.specs.Refusal.{placeOf}
 use Rattle.line.specs.Row.{dueRow, lineRead, readLine}
 use Rattle.line.specs.declared.LineRead.{LineRead}
 use Rattle.line.specs.declared.LineRead.the-variants.{Fault, Took}
-use Rattle.line.specs.declared.Refusal.{Refusal}
+use Rattle.fault.specs.declared.Refusal.{Refusal}
 use Rattle.line.specs.declared.Row.{Row}
 use Rattle.line.specs.declared.Row.the-variants.{NotForm, RangeAt, Read}
-use Rattle.schedule.specs.Schedule.{reads, refusal}
+use Rattle.texts.specs.Schedule.{reads, refusal}
 use Rattle.schedule.specs.Sections.{ended, foundSections, header, judged, lines, linesPast, nextLine, passedLine, sections}
 use Rattle.schedule.specs.declared.Judged.{Judged}
 use Rattle.schedule.specs.declared.Judged.the-variants.{Refused, Taken}
 use Rattle.schedule.specs.declared.Passed.{Passed}
 use Rattle.schedule.specs.declared.Passed.the-variants.{Past, Stuck}
 use Rattle.schedule.specs.declared.Sections.{Sections}
 
 -- a place up to one: where a line was read to, or where it is refused
 abbrev ReadIn : ℕ → LineRead → Type 0

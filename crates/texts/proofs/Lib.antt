@@ -1,0 +1,11 @@
+pub mod Fields
+pub mod Operands
+pub mod OnlyLines
+pub mod Apart
+pub mod ReadLines
+pub mod OneText
+pub mod Inside
+pub mod Lines
+pub mod OnlySchedules
+pub mod ReadSchedules
+pub mod Places

@@ -1,0 +1,1 @@
+// Lines and schedules have one text each, and the reader takes no other; no code.
