@@ -1,3 +1,4 @@
 pub mod Sections
+pub mod Judging
 pub mod Schedule
 pub mod Promise

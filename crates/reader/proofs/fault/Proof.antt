@@ -11,19 +11,16 @@ use base.Fml.{Lft, Share, Fml, flft}
 use prog.Memory.{Memory}
 use prog.Routine.{Routine}
 use prog.Wp.{Heap, Calls, Loops, WpFn, Tables}
-use ghost.Atoms.{Atoms, sem}
+use ghost.Atoms.{Atoms}
 use contract.Monad.{Fun}
 use contract.Running.{givenOf, tables, tablesOf}
 use types.Kit.{Given, ‵, raw, _⊛_, ⋆, _$_, _∵_, !, qed, by, move, use1, use2, split, suffices}
 use types.Part.{whole, sub, look-in}
 use types.Run.{look, init, forget, stop, fld, from, load, of-opd, and-then, no-more, assigns, land, returns, enter, alloc1, alloc0, params1, pass1, pass0, free1, free0}
 use sound.WpLaws.{FmC, fmOf, WpFn-mono}
-use denote.RattleType.{owns}
-use denote.Laws.{Is, Ises, owns-make}
+use denote.Laws.{Is}
 use denote.Builtin.{u8}
-use denote.Signature.{namedLft}
 use denote.Enum.Laws as EL
-use denote.Struct.Laws as LL
 use denote.Triple.Statement.{Triple}
 use denote.Triple.Entry.{Vals, onEntry}
 use denote.Triple.Spec.{Meets, tripleOf}
@@ -41,9 +38,8 @@ use Rattle.line.proofs.part_at_fault.Symbol as part-def
 use Rattle.line.proofs.part_at_fault.Symbol.{name as #part}
 use Rattle.line.proofs.part_at_fault.Met as part-thm
 use Rattle.reader.specs.declared.Reader.{Reader}
-use Rattle.reader.proofs.Calling.{Met, enters, asks, leaves, calls-told}
-use Rattle.reader.proofs.Held.{spelled, B, S, text-out}
-use Rattle.reader.proofs.Reader as T
+use Rattle.reader.proofs.Calling.{Met, Had, one, enters, asks, leaves, calls-told}
+use Rattle.reader.proofs.Held.{spelled, B, S, reader-tells, text-out, typed}
 use Rattle.reader.proofs.Reader.Laws as T′
 use Rattle.reader.proofs.fault.Key.{name as #key}
 use Rattle.reader.proofs.fault as f
@@ -71,12 +67,8 @@ module _ {M : Type 1} (𝓤 : URA M) (H : Heap 𝓤) (A : Atoms 𝓤) (W : Given
   abbrev OwnS : Fml
   OwnS = S κ .own (d .text) (spelled (d .text) ∷ [])
 
-  abbrev Rest : Fml
-  Rest = owns (U.the-row ∷ []) (why, tt) (vd ∷ [], tt)
-
-  had : ent 𝓤 (emp 𝓤) (sem 𝓤 H A Rest)
-  had = owns-make 𝓤 H A (U.the-row ∷ []) (Ises (U.the-row ∷ [])) (EL.makes U.the-type U′.the-plain 𝓤 H A, tt) (why, tt) (vd ∷ [], tt)
-      (gu, tt)
+  abbrev had : Had 𝓤 H A
+  had = one 𝓤 H A U.the-row (EL.makes U.the-type U′.the-plain 𝓤 H A) why (vd ∷ []) gu
 
   abbrev Post : Val → SProp 𝓤
   Post = walkOf 𝓤 H A f.ended stayed (f.clauses 𝓤 H A mem run) .post (((κ, tt), (q, tt), tt, (d, (why, tt)), at), tt)
@@ -87,7 +79,7 @@ module _ {M : Type 1} (𝓤 : URA M) (H : Heap 𝓤) (A : Atoms 𝓤) (W : Given
       qed W (‵ (S κ .own r (u ∷ [])) ∷ ‵ (flft κ q) ∷ ‵ Own ∷ []) ∵
       suffices ! _ (ends-at 𝓤 H A f.ended stayed (f.clauses 𝓤 H A mem run) W (((κ, tt), (q, tt), tt, (d, (why, tt)), at), tt) u r
       (tt, (tt, tt)) (tt, (tt, tt))) $ says ! e $
-      by ! (leaves 𝓤 H A W Rest had κ q Own (S κ .own r (u ∷ [])))
+      by ! (leaves 𝓤 H A W had κ q Own (S κ .own r (u ∷ [])))
 
   abbrev to : Met 𝓤 H A part.ended (part.clauses 𝓤 H A mem run) .Ghost
   to = (((κ, tt), (q, tt), tt, (d .text, (why, tt)), (spelled (d .text) ∷ [], (vd ∷ [], tt))), tt)
@@ -96,15 +88,15 @@ module _ {M : Type 1} (𝓤 : URA M) (H : Heap 𝓤) (A : Atoms 𝓤) (W : Given
       (known : Triple 𝓤 (C #part) (Met 𝓤 H A part.ended (part.clauses 𝓤 H A mem run))) where
     walk : ent 𝓤 (onEntry 𝓤 H A f.signature (κ, tt) (q, tt) (d, (why, tt)) at) (WpFn 𝓤 H C Λ code.function (mach ∷ vd ∷ []) Post)
     walk =
-        let wt = LL.lawful (T.the-type (namedLft 1 0 tt (κ, tt))) (T′.the-laws (namedLft 1 0 tt (κ, tt))) 𝓤 H A W .typed d _ gd .0 in
+        let wt = typed κ 𝓤 H A W d gd in
         qed W (raw (onEntry 𝓤 H A f.signature (κ, tt) (q, tt) (d, (why, tt)) at) ∷ []) ∵ enter ! C Λ code.function (mach ∷ vd ∷ []) _ $
         alloc1 ! (λ l₀. alloc1 ! (λ l₁. alloc1 ! (λ l₂. alloc1 ! (λ l₃. alloc0 ! $ params1 ! $
         pass1 ! (init ! 4 refl wt) $ pass1 ! (init ! 2 refl (EL.lawful U.the-type U′.the-laws 𝓤 H A W tt .typed why _ gu .0)) $ pass0 ! $
         assigns ! (of-opd ! (load ! (from ! (fld ! refl (stop !))) (look-in ! 4 (sub ! 0 refl (whole !))))) (from ! (stop !))
         (init ! 0 refl (tt, wt .1 .0)) $
-        move ! (8 ∷ []) $ use1 W (‵ (flft κ q) ⊛ ‵ Own) (enters 𝓤 H A W Rest had κ q Own) $ split ! $ move ! (1 ∷ []) $
+        move ! (8 ∷ []) $ use1 W (‵ (flft κ q) ⊛ ‵ Own) (enters 𝓤 H A W had κ q Own) $ split ! $ move ! (1 ∷ []) $
         use1 W (‵ OwnS ⊛ ‵ Own) (text-out κ 𝓤 H A W d) $ split ! $ move ! (2 ∷ 0 ∷ []) $
-        use2 W (raw (Met 𝓤 H A part.ended (part.clauses 𝓤 H A mem run) .pre to)) (asks 𝓤 H A W Rest had κ q OwnS) $
+        use2 W (raw (Met 𝓤 H A part.ended (part.clauses 𝓤 H A mem run) .pre to)) (asks 𝓤 H A W had κ q OwnS) $
         -- [pre; what the reader owns; _3 (2); …; _k (8 - 2 k); …]
         calls-told ! fm part.ended (part.clauses 𝓤 H A mem run) known to (‵ (flft κ q)) (fst∗ 𝓤 _ (emp 𝓤))
         (λ r. now r ≡ partOf (now (d .text)) why) (λ r ws. id⊢ 𝓤 _)
@@ -119,21 +111,17 @@ module _ {M : Type 1} (𝓤 : URA M) (H : Heap 𝓤) (A : Atoms 𝓤) (W : Given
     (𝓣 : Tables 𝓤 H) (known : Triple 𝓤 (𝓣 .C #part) (Met 𝓤 H A part.ended (part.clauses 𝓤 H A mem run))) where
   fault-walks : Walks 𝓤 H A f.ended stayed (WpFn 𝓤 H (𝓣 .C) (𝓣 .Λ) code.function) (f.clauses 𝓤 H A mem run)
   fault-walks = walked 𝓤 H A f.ended stayed (f.clauses 𝓤 H A mem run) (WpFn 𝓤 H (𝓣 .C) (𝓣 .Λ) code.function)
-      (λ κs. (LL.vals (T.the-type (namedLft 1 0 tt κs)) (T′.the-laws (namedLft 1 0 tt κs)), (EL.vals U.the-type U′.the-laws, tt)))
-      (λ κs. (LL.tells (T.the-type (namedLft 1 0 tt κs)) (T′.the-laws (namedLft 1 0 tt κs)), (EL.tells U.the-type U′.the-laws, tt)))
+      (λ κs. (λ d. T′.lowered d ∷ [], (EL.vals U.the-type U′.the-laws, tt)))
+      (λ κs. (reader-tells (κs .0), (EL.tells U.the-type U′.the-laws, tt)))
       (λ κs qs bounds a g are. via 𝓤 _ (fst∗ 𝓤 _ (emp 𝓤)) (walk 𝓤 H A W mem run (κs .0) (qs .0) (a .0) (a .1 .0) (are .0) (are .1 .0) (𝓣 .C)
       (𝓣 .Λ) (fmOf 𝓤 H (W .laws) 𝓣) known))
 
   fault-meets : Meets 𝓤 H A f.signature (WpFn 𝓤 H (𝓣 .C) (𝓣 .Λ) code.function) (f.spec 𝓤 H A mem run)
-  fault-meets = walk-meets 𝓤 H A f.ended stayed W (
-    goes-none 𝓤 H A W 1 (λ κs. B (κs .0)) yes (λ κs x f. refl),
-    (
-      goes-none 𝓤 H A W 1
-          (λ _. U.the-row) yes (λ κs x f. refl),
-      tt,
-    ),
-  ) (f.clauses 𝓤 H A mem run)
-      (WpFn 𝓤 H (𝓣 .C) (𝓣 .Λ) code.function) (WpFn-mono 𝓤 H (W .laws) 𝓣 code.function) fault-walks
+  fault-meets =
+      let reader = goes-none 𝓤 H A W 1 (λ κs. B (κs .0)) yes (λ κs x f. refl) in
+      let why = goes-none 𝓤 H A W 1 (λ _. U.the-row) yes (λ κs x f. refl) in
+      walk-meets 𝓤 H A f.ended stayed W (reader, (why, tt)) (f.clauses 𝓤 H A mem run) (WpFn 𝓤 H (𝓣 .C) (𝓣 .Λ) code.function)
+      (WpFn-mono 𝓤 H (W .laws) 𝓣 code.function) fault-walks
 
 pub fault-spec : {M : Type 1} → stated.statement M
 unfolding code.routine tablesOf

@@ -20,20 +20,16 @@ use types.Part.{whole, sub, look-in, agg}
 use types.Run.{look, init, forget, stop, fld, from, load, of-opd, and-then, no-more, assigns, returns, enter, alloc1, alloc0, params1, pass1, pass0, free1, free0}
 use sound.WpLaws.{WpFn-mono}
 use denote.RattleType.{owns}
-use denote.Laws.{Ises, owns-make}
 use denote.Plain.{uint-vals, uint-tells, uint-makes}
 use denote.Builtin.{usize}
-use denote.Signature.{namedLft}
-use denote.Struct.Laws as LL
 use denote.Triple.Entry.{Vals, onEntry}
 use denote.Triple.Spec.{Meets, tripleOf}
 use denote.Triple.Table.{entered}
 use denote.Triple.Walked.{says, Stays, stay-none, walkOf, goes-none, Walks, ends-at, walked, walk-meets}
 use denote.Exit.{yes}
 use Rattle.reader.specs.declared.Reader.{Reader}
-use Rattle.reader.proofs.Calling.{leaves}
-use Rattle.reader.proofs.Held.{at-place, spelled, B, S, text-out, held}
-use Rattle.reader.proofs.Reader as T
+use Rattle.reader.proofs.Calling.{one, leaves}
+use Rattle.reader.proofs.Held.{at-place, spelled, B, S, reader-tells, text-out, held, typed}
 use Rattle.reader.proofs.Reader.Laws as T′
 use Rattle.reader.proofs.moved.Key.{name as #key}
 use Rattle.reader.proofs.moved as f
@@ -68,8 +64,8 @@ module _ {M : Type 1} (𝓤 : URA M) (H : Heap 𝓤) (A : Atoms 𝓤) (W : Given
       split ! $ move ! (2 ∷ []) $ fsplit ! $ use1 W (‵ (S κ .own (d .text) (spelled (d .text) ∷ [])) ⊛ ‵ Own) (text-out κ 𝓤 H A W d) $
       split ! $
       use1 W (‵ (B κ .own (at-place (d .text) n) (made ∷ []))) (held κ 𝓤 H A W (d .text) n ok) $ keep ! (0 ∷ 3 ∷ 1 ∷ []) $
-      by ! (leaves 𝓤 H A W (owns (usize ∷ []) (n, tt) (vint w64 n ∷ [], tt)) (owns-make 𝓤 H A (usize ∷ []) (Ises (usize ∷ []))
-      (uint-makes 𝓤 H A W w64, tt) _ _ ((refl, ok), tt)) κ q Own (B κ .own (at-place (d .text) n) (made ∷ [])))
+      by ! (leaves 𝓤 H A W (one 𝓤 H A usize (uint-makes 𝓤 H A W w64) n (vint w64 n ∷ []) (refl, ok)) κ q Own
+      (B κ .own (at-place (d .text) n) (made ∷ [])))
 
   walk : (C : Calls 𝓤 H) (Λ : Loops 𝓤 H) → Holds (hasTy (T′.mir (named 0)) mach) × WT mach
       → ent 𝓤 (onEntry 𝓤 H A f.signature (κ, tt) (q, tt) (d, (n, tt)) at) (WpFn 𝓤 H C Λ code.function (mach ∷ vint w64 n ∷ []) Post)
@@ -88,21 +84,17 @@ module _ {M : Type 1} (𝓤 : URA M) (H : Heap 𝓤) (A : Atoms 𝓤) (W : Given
     (𝓣 : Tables 𝓤 H) where
   moved-walks : Walks 𝓤 H A f.ended stayed (WpFn 𝓤 H (𝓣 .C) (𝓣 .Λ) code.function) (f.clauses 𝓤 H A mem run)
   moved-walks = walked 𝓤 H A f.ended stayed (f.clauses 𝓤 H A mem run) (WpFn 𝓤 H (𝓣 .C) (𝓣 .Λ) code.function)
-      (λ κs. (LL.vals (T.the-type (namedLft 1 0 tt κs)) (T′.the-laws (namedLft 1 0 tt κs)), (uint-vals w64, tt)))
-      (λ κs. (LL.tells (T.the-type (namedLft 1 0 tt κs)) (T′.the-laws (namedLft 1 0 tt κs)), (uint-tells w64, tt)))
+      (λ κs. (λ d. T′.lowered d ∷ [], (uint-vals w64, tt)))
+      (λ κs. (reader-tells (κs .0), (uint-tells w64, tt)))
       (λ κs qs bounds a g are. via 𝓤 _ (fst∗ 𝓤 _ (emp 𝓤)) (walk 𝓤 H A W mem run (κs .0) (qs .0) (a .0) (a .1 .0) (are .1 .0 .1) (𝓣 .C)
-      (𝓣 .Λ) (LL.lawful (T.the-type (namedLft 1 0 tt κs)) (T′.the-laws (namedLft 1 0 tt κs)) 𝓤 H A W .typed (a .0) _ (are .0) .0)))
+      (𝓣 .Λ) (typed (κs .0) 𝓤 H A W (a .0) (are .0))))
 
   moved-meets : Meets 𝓤 H A f.signature (WpFn 𝓤 H (𝓣 .C) (𝓣 .Λ) code.function) (f.spec 𝓤 H A mem run)
-  moved-meets = walk-meets 𝓤 H A f.ended stayed W (
-    goes-none 𝓤 H A W 1 (λ κs. B (κs .0)) yes (λ κs x f. refl),
-    (
-      goes-none 𝓤 H A W 1
-          (λ _. usize) yes (λ κs x f. refl),
-      tt,
-    ),
-  ) (f.clauses 𝓤 H A mem run)
-      (WpFn 𝓤 H (𝓣 .C) (𝓣 .Λ) code.function) (WpFn-mono 𝓤 H (W .laws) 𝓣 code.function) moved-walks
+  moved-meets =
+      let reader = goes-none 𝓤 H A W 1 (λ κs. B (κs .0)) yes (λ κs x f. refl) in
+      let place = goes-none 𝓤 H A W 1 (λ _. usize) yes (λ κs x f. refl) in
+      walk-meets 𝓤 H A f.ended stayed W (reader, (place, tt)) (f.clauses 𝓤 H A mem run) (WpFn 𝓤 H (𝓣 .C) (𝓣 .Λ) code.function)
+      (WpFn-mono 𝓤 H (W .laws) 𝓣 code.function) moved-walks
 
 pub moved-spec : {M : Type 1} → stated.statement M
 unfolding code.routine tablesOf
