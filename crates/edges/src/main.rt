@@ -50,12 +50,12 @@ fn show_first(bytes: &[u8], n: usize) {
 fn show_refused(text: &[u8], r: Refusal) {
     io::print_decimal(1, fault::number_of(r) as u64);
     io::write_all(1, b" ");
-    io::write_all(1, fault::part_at_fault(text, r));
+    io::write_all(1, reader::fault_of(text, r));
     io::write_all(1, b"\n");
 }
 
 fn show_case(text: &[u8], at: usize, mark: u8) {
-    match line::read_line(text, at, due_for(mark)) {
+    match reader::line_of(text, at, due_for(mark)) {
         LineRead::Took(x, _) => show_taken(x),
         LineRead::Fault(r) => show_refused(text, r),
     }

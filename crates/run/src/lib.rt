@@ -93,7 +93,7 @@ fn read_weights(text: &[u8], s: Section, room: &mut [u32]) -> usize
     let mut left = s.count;
     let mut n: usize = 0;
     while 0 < left {
-        match line::read_line(text, at, Due::WeightDue) {
+        match reader::line_of(text, at, Due::WeightDue) {
             LineRead::Took(x, p) => {
                 room[n] = weight_in(x);
                 n = n + 1;

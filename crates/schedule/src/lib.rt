@@ -1,11 +1,12 @@
-// The whole text of a schedule: judged from the front, section by section, one line at a time.
+// The whole text of a schedule: judged from the front, section by section, one line at a time from a reader.
 use fault::Refusal;
 use form::Due;
 use form::Header;
 use form::Line;
 use line::LineRead;
 ghost use mathlib.Core.Path.{_≡_};
-ghost use Rattle.schedule.specs.Sections.{countIn, passedLine, header, linesPast, lines, countOf, sectionOf, ended, sections, judged};
+ghost use Rattle.schedule.specs.Sections.{countIn, judged};
+ghost use Rattle.schedule.specs.Judging.{stopped, begun, lineDue, dueIn, linesUnder, noted, goesOn, nextHeader, settled, opened, afterLine, endedAt};
 
 // So many lines, and the place of the first of them.
 pub struct Section {
@@ -34,6 +35,17 @@ pub enum Passed {
     Stuck(Refusal),
 }
 
+// How far a text is judged: whether a line is due, and where; the section whose header line it is, or, where lines are left, one of
+// whose lines; what the sections before hold; and, where none is due, what was passed.
+struct Progress {
+    on: bool,
+    at: usize,
+    section: Header,
+    left: u32,
+    found: Sections,
+    last: Passed,
+}
+
 // The count that a header line gives.
 fn count_in(line: Line) -> u32
     ensures { λ r. ⌜ r ≡ countIn line ⌝ }
@@ -45,117 +57,222 @@ fn count_in(line: Line) -> u32
     }
 }
 
-fn passed_line(r: LineRead) -> Passed
-    ensures { λ p. ⌜ p ≡ passedLine r ⌝ }
+// Before the first line of a text of a length.
+fn begin(len: usize) -> Progress
+    ensures { λ r. ⌜ r ≡ begun len ⌝ }
 {
-    match r {
-        LineRead::Took(x, p) => Passed::Past(count_in(x), p),
-        LineRead::Fault(f) => Passed::Stuck(f),
+    let none = Section { count: 0, at: 0 };
+    let found = Sections {
+        threads: 0,
+        slots: 0,
+        plain: none,
+        flag: none,
+        steps: none,
+    };
+    if 65536 < len {
+        stop(Passed::Stuck(Refusal::TooLong), 0, found)
+    } else {
+        Progress {
+            on: true,
+            at: 0,
+            section: Header::Shape,
+            left: 0,
+            found,
+            last: Passed::Past(0, 0),
+        }
     }
 }
 
-// A header line after what was passed; a refusal goes on.
-fn then_header(text: &[u8], first: Passed, h: Header) -> Passed
-    ensures { λ r. ⌜ r ≡ header h (now (text .entry)) first ⌝ }
+// No line is due.
+fn stop(last: Passed, at: usize, found: Sections) -> Progress
+    ensures { λ r. ⌜ r ≡ stopped last at found ⌝ }
 {
-    match first {
-        Passed::Past(_, p) => passed_line(line::read_line(text, p, Due::HeaderDue(h))),
-        Passed::Stuck(f) => Passed::Stuck(f),
+    Progress {
+        on: false,
+        at,
+        section: Header::Steps,
+        left: 0,
+        found,
+        last,
     }
 }
 
-// So many lines from a place on.
-fn pass_lines(text: &[u8], from: usize, count: u32, due: Due) -> Passed
-    ensures { λ r. ⌜ r ≡ linesPast count due (now (text .entry)) from ⌝ }
+// What a line of a section is.
+fn line_due(h: Header) -> Due
+    ensures { λ r. ⌜ r ≡ lineDue h ⌝ }
 {
-    let mut at = from;
-    let mut left = count;
-    while 0 < left {
-        match line::read_line(text, at, due) {
-            LineRead::Took(_, p) => {
-                at = p;
-            }
-            LineRead::Fault(f) => {
-                return Passed::Stuck(f);
+    match h {
+        Header::Shape => Due::WeightDue,
+        Header::Threads => Due::WeightDue,
+        Header::Slots => Due::WeightDue,
+        Header::Plain => Due::WeightDue,
+        Header::Flag => Due::WeightDue,
+        Header::Steps => Due::StepDue,
+    }
+}
+
+// The line that is due.
+fn due_in(g: Progress) -> Due
+    ensures { λ r. ⌜ r ≡ dueIn g ⌝ }
+{
+    let h = g.section;
+    if g.left == 0 {
+        Due::HeaderDue(h)
+    } else {
+        line_due(h)
+    }
+}
+
+// How many lines a header line with a count has under it.
+fn lines_under(h: Header, n: u32) -> u32
+    ensures { λ r. ⌜ r ≡ linesUnder h n ⌝ }
+{
+    match h {
+        Header::Shape => 0,
+        Header::Threads => 0,
+        Header::Slots => 0,
+        Header::Plain => n,
+        Header::Flag => n,
+        Header::Steps => n,
+    }
+}
+
+// What was found, with what a header line says: a count, and the place after it.
+fn note(h: Header, n: u32, at: usize, found: Sections) -> Sections
+    ensures { λ r. ⌜ r ≡ noted h n at found ⌝ }
+{
+    let mut f = found;
+    let s = Section { count: n, at };
+    match h {
+        Header::Shape => f,
+        Header::Threads => {
+            f.threads = n;
+            f
+        }
+        Header::Slots => {
+            f.slots = n;
+            f
+        }
+        Header::Plain => {
+            f.plain = s;
+            f
+        }
+        Header::Flag => {
+            f.flag = s;
+            f
+        }
+        Header::Steps => {
+            f.steps = s;
+            f
+        }
+    }
+}
+
+// Whether a section comes after this one, and the header line that is due there.
+fn goes_on(h: Header) -> bool
+    ensures { λ r. ⌜ r ≡ goesOn h ⌝ }
+{
+    match h {
+        Header::Shape => true,
+        Header::Threads => true,
+        Header::Slots => true,
+        Header::Plain => true,
+        Header::Flag => true,
+        Header::Steps => false,
+    }
+}
+
+fn next_header(h: Header) -> Header
+    ensures { λ r. ⌜ r ≡ nextHeader h ⌝ }
+{
+    match h {
+        Header::Shape => Header::Threads,
+        Header::Threads => Header::Slots,
+        Header::Slots => Header::Plain,
+        Header::Plain => Header::Flag,
+        Header::Flag => Header::Steps,
+        Header::Steps => Header::Steps,
+    }
+}
+
+// So many lines of a section are left.
+fn settle(h: Header, left: u32, at: usize, found: Sections) -> Progress
+    ensures { λ r. ⌜ r ≡ settled h left at found ⌝ }
+{
+    if left == 0 {
+        Progress {
+            on: goes_on(h),
+            at,
+            section: next_header(h),
+            left: 0,
+            found,
+            last: Passed::Past(0, at),
+        }
+    } else {
+        Progress {
+            on: true,
+            at,
+            section: h,
+            left,
+            found,
+            last: Passed::Past(0, at),
+        }
+    }
+}
+
+// A header line with a count was read.
+fn open_section(h: Header, n: u32, at: usize, found: Sections) -> Progress
+    ensures { λ r. ⌜ r ≡ opened h n at found ⌝ }
+{
+    settle(h, lines_under(h, n), at, note(h, n, at, found))
+}
+
+// The line that was due is read.
+fn pass_line(g: Progress, l: LineRead) -> Progress
+    ensures { λ r. ⌜ r ≡ afterLine g l ⌝ }
+{
+    let h = g.section;
+    let found = g.found;
+    match l {
+        LineRead::Took(x, p) => {
+            if g.left == 0 {
+                open_section(h, count_in(x), p, found)
+            } else {
+                settle(h, g.left - 1, p, found)
             }
         }
-        left = left - 1;
-    }
-    Passed::Past(0, at)
-}
-
-// As many lines as the header line before them says.
-fn then_lines(text: &[u8], first: Passed, due: Due) -> Passed
-    ensures { λ r. ⌜ r ≡ lines due (now (text .entry)) first ⌝ }
-{
-    match first {
-        Passed::Past(n, p) => pass_lines(text, p, n, due),
-        Passed::Stuck(f) => Passed::Stuck(f),
+        LineRead::Fault(f) => stop(Passed::Stuck(f), g.at, found),
     }
 }
 
-fn count_of(p: Passed) -> u32
-    ensures { λ r. ⌜ r ≡ countOf p ⌝ }
+// The end of a text of a length, once no line is due.
+fn end_text(g: Progress, len: usize) -> Judged
+    ensures { λ r. ⌜ r ≡ endedAt g len ⌝ }
 {
-    match p {
-        Passed::Past(n, _) => n,
-        Passed::Stuck(_) => 0,
-    }
-}
-
-fn section_of(p: Passed) -> Section
-    ensures { λ r. ⌜ r ≡ sectionOf p ⌝ }
-{
-    match p {
-        Passed::Past(n, at) => Section { count: n, at },
-        Passed::Stuck(_) => Section { count: 0, at: 0 },
-    }
-}
-
-// The text's end after its last section.
-fn end_text(text: &[u8], last: Passed, s: Sections) -> Judged
-    ensures { λ r. ⌜ r ≡ ended (now (text .entry)) last s ⌝ }
-{
+    let last = g.last;
+    let found = g.found;
     match last {
         Passed::Past(_, p) => {
-            if p < text.len() {
+            if p < len {
                 Judged::Refused(Refusal::Extra(p))
             } else {
-                Judged::Taken(s)
+                Judged::Taken(found)
             }
         }
         Passed::Stuck(f) => Judged::Refused(f),
     }
 }
 
-fn judge_sections(text: &[u8]) -> Judged
-    ensures { λ r. ⌜ r ≡ sections (now (text .entry)) ⌝ }
-{
-    let shape = then_header(text, Passed::Past(0, 0), Header::Shape);
-    let threads = then_header(text, shape, Header::Threads);
-    let slots = then_header(text, threads, Header::Slots);
-    let plain = then_header(text, slots, Header::Plain);
-    let cells = then_lines(text, plain, Due::WeightDue);
-    let flag = then_header(text, cells, Header::Flag);
-    let flags = then_lines(text, flag, Due::WeightDue);
-    let steps = then_header(text, flags, Header::Steps);
-    let last = then_lines(text, steps, Due::StepDue);
-    let found = Sections {
-        threads: count_of(threads),
-        slots: count_of(slots),
-        plain: section_of(plain),
-        flag: section_of(flag),
-        steps: section_of(steps),
-    };
-    end_text(text, last, found)
-}
-
 // A text of any bytes and any length, judged.
 pub fn judge(text: &[u8]) -> Judged
     ensures { λ r. ⌜ r ≡ judged (now (text .entry)) ⌝ }
 {
-    if 65536 < text.len() {
-        return Judged::Refused(Refusal::TooLong);
+    let mut r = reader::on(text);
+    let mut g = begin(text.len());
+    while g.on {
+        let l = reader::next_line(r, due_in(g));
+        g = pass_line(g, l);
+        r = reader::moved(r, g.at);
     }
-    judge_sections(text)
+    end_text(g, text.len())
 }

@@ -21,17 +21,17 @@ abbrev μ-loop : tie.MeasureT-loop
 
 more : (c : tie.After-weight-in Inv-loop μ-loop) → map weightIn (linesFrom (c .before .before .before .before .before .before .loop .left) WeightDue (now (c .before .before .before .before .before .before .before .before .before .args .text)) (c .before .before .before .before .before .before .loop .at)) ≡ c .weight-in .result ∷ map weightIn (linesFrom (c .before .before .before .before .before .before .loop .left - 1) WeightDue (now (c .before .before .before .before .before .before .before .before .before .args .text)) (c .before .before .x .given .0 .1 .0))
 more c =
-    let at-read-line = c .before .before .before .before in
-    let at-test = at-read-line .before in
+    let at-line-of = c .before .before .before .before in
+    let at-test = at-line-of .before in
     let at-loop = at-test .before in
     let at-start = at-loop .before .before .before in
-    rw (from-line (at-loop .loop .left) WeightDue (now (at-start .args .text)) (at-loop .loop .at) _ (at-test .loop-test .taken) (sym (at-read-line .read-line .ensures) ∙ c .before .before .x .given .1), c .weight-in .ensures)
+    rw (from-line (at-loop .loop .left) WeightDue (now (at-start .args .text)) (at-loop .loop .at) _ (at-test .loop-test .taken) (sym (at-line-of .line-of .ensures) ∙ c .before .before .x .given .1), c .weight-in .ensures)
 
 loop-holds : tie.Need-loop-holds Inv-loop μ-loop
 loop-holds c = (refl, omega arith, refl, omega arith)
 
-read-line-requires : tie.Need-read-line-requires Inv-loop μ-loop
-read-line-requires c κs = search needs
+line-of-requires : tie.Need-line-of-requires Inv-loop μ-loop
+line-of-requires c κs = search needs
 
 enum-known-x : tie.Need-enum-known-x Inv-loop μ-loop
 enum-known-x c = search needs
@@ -61,7 +61,7 @@ returns c =
     let at-test = c .before .before .before in
     let at-loop = at-test .before in
     let at-start = at-loop .before .before .before in
-    let e = ap (λ (xs : List Line). map weightIn xs) (from-line (at-loop .loop .left) WeightDue (now (at-start .args .text)) (at-loop .loop .at) _ (at-test .loop-test .taken) (sym (c .before .before .read-line .ensures) ∙ c .enum-told .given .1)) in record { next = omega (arith, ap length e); list = rw e at (at-loop .loop .inv .0) }
+    let e = ap (λ (xs : List Line). map weightIn xs) (from-line (at-loop .loop .left) WeightDue (now (at-start .args .text)) (at-loop .loop .at) _ (at-test .loop-test .taken) (sym (c .before .before .line-of .ensures) ∙ c .enum-told .given .1)) in record { next = omega (arith, ap length e); list = rw e at (at-loop .loop .inv .0) }
 
 sub-left : tie.Need-sub-left Inv-loop μ-loop
 sub-left c = omega arith
@@ -88,7 +88,7 @@ read-weights-spec =
     Inv-loop
     μ-loop
     loop-holds
-    read-line-requires
+    line-of-requires
     enum-known-x
     weight-in-requires
     mul-room

@@ -1,0 +1,16 @@
+use borrow.Author.Tests.{eq-eqb, ne-eqb}
+use borrow.Author.Needs.{needs}
+use Rattle.schedule.proofs.due_in.Statement.{statement}
+use Rattle.schedule.proofs.due_in.Tie as tie
+
+line-due-requires : tie.Need-line-due-requires
+line-due-requires c κs = search needs
+
+returns : tie.Need-returns
+returns c = simp (eq-eqb _ _ (c .if1 .taken))
+
+returns-2 : tie.Need-returns-2
+returns-2 c = simp (ne-eqb _ _ (c .before .if1 .left)) (c .line-due .ensures)
+
+pub due-in-spec : {M : Type 1} → statement M
+due-in-spec = tie.close (tie.spec line-due-requires returns returns-2)
