@@ -35,8 +35,8 @@ pub enum Passed {
     Stuck(Refusal),
 }
 
-// How far a text is judged: whether a line is due, and where; the section whose header line it is, or, where lines are left, one of
-// whose lines; what the sections before hold; and, where none is due, what was passed.
+// How far a text is judged: whether a line is due, and at which place; the section in hand and how many lines of it are left (where none
+// is, its header line is due); what was found so far; and, once no line is due, what was passed last.
 struct Progress {
     on: bool,
     at: usize,
