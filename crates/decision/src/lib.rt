@@ -100,8 +100,9 @@ fn ask_by(m: Machine, access: Access) -> Ask
 {
     let cell = cell_asked(access);
     let first = state::first_of(m, index(cell));
-    let query = writes::sought(state::cells_of(m), first, cell, stamp_asked(access));
+    let cells = state::cells_of(m);
     let held = state::held_of(m);
+    let query = writes::sought(cells, first, cell, stamp_asked(access));
     Ask {
         access,
         held,

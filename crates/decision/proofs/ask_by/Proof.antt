@@ -6,12 +6,13 @@ use Rattle.decision.proofs.ask_by.Tie as tie
 returns : tie.Need-returns
 unfolding askBy
 returns c =
-    let first = c .before .before .before .before in
+    let counted = c .before .before in
+    let first = counted .before .before in
     rw (
-      c .held-of .ensures,
-      c .before .sought .ensures,
-      c .before .before .stamp-asked .ensures,
-      c .before .before .before .cells-of .ensures,
+      c .sought .ensures,
+      c .before .stamp-asked .ensures,
+      counted .held-of .ensures,
+      counted .before .cells-of .ensures,
       first .first-of .ensures,
       first .before .index .ensures,
       first .before .before .cell-asked .ensures,

@@ -53,7 +53,7 @@ use Rattle.writes.specs.declared.Query.{Query}
 use Rattle.writes.specs.declared.Write.{Write}
 use Rattle.decision.proofs.Settled.{settled}
 use Rattle.writes.proofs.Calling.{calls-values}
-use Rattle.writes.proofs.Lent.{Search, Store, calls-search, calls-store, lent-at, query-vals, write-vals}
+use Rattle.writes.proofs.Lent.{Search, Store, calls-search, calls-store, lent-at, query-vals}
 use Rattle.writes.proofs.Shared.{LentShared, lends-shared, shared-back}
 use Rattle.decision.proofs.Ask as K
 use Rattle.decision.proofs.Ask.Laws as K′
@@ -70,7 +70,6 @@ use Rattle.writes.proofs.Fill.Laws as F′
 use Rattle.writes.proofs.Query as Q
 use Rattle.writes.proofs.Query.Laws as Q′
 use Rattle.writes.proofs.Write as T
-use Rattle.writes.proofs.Write.Laws as T′
 use Rattle.decision.proofs.ask_of as ask-of
 use Rattle.decision.proofs.ask_of.Symbol as ask-of-def
 use Rattle.decision.proofs.ask_of.Symbol.{name as #ask-of}
