@@ -5,8 +5,9 @@ use mathlib.Core.List.{List}
 use Prim.Native.Nat.{ℕ, _-_}
 use lib.Dec.{eqb}
 use lib.ListN.{length, set, take}
-use Rattle.decision.specs.Decision.{askBy, askedIf, askOf, standsBy, verdictOf, rankAskOf, contentBy}
-use Rattle.decision.specs.declared.Ask.{Ask}
+use Rattle.asking.specs.Ask.{askBy, askedIf, askOf, rankAskOf}
+use Rattle.asking.specs.declared.Ask.{Ask}
+use Rattle.decision.specs.Decision.{standsBy, verdictOf, contentBy}
 use Rattle.decision.specs.declared.Verdict.{Verdict}
 use Rattle.laws.specs.Tests.{_and_}
 use Rattle.rank.specs.Rank.{fullStatus}

@@ -2,17 +2,12 @@
 use mathlib.Core.Path.{_≡_}
 use mathlib.Core.Bool.{true}
 use Prim.Native.Nat.{ℕ}
-use Rattle.decision.specs.Bounds.{Small, Sized}
+use Rattle.decision.specs.Bounds.{Sized}
 use Rattle.standing.proofs.Bounds.{sizes}
 use Rattle.standing.specs.Stands.{sizesStand}
 use Rattle.state.specs.declared.Machine.{Machine}
 
-pub small : (m : Machine) (lent : ℕ) → sizesStand m lent ≡ true → Small (m .shape)
-small m lent e =
-    let w = sizes m lent e .shape in
-    record { some = w .some-slot; slots = w .slots; plain = w .plain }
-
 pub sized : (m : Machine) (lent : ℕ) → sizesStand m lent ≡ true → Sized m
 sized m lent e =
     let z = sizes m lent e in
-    record { small = small m lent e; steps = z .steps; held = z .held }
+    record { slots = z .shape .slots; steps = z .steps; held = z .held }

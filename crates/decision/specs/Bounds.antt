@@ -1,16 +1,9 @@
 -- What the private functions of this crate lean on; no public contract speaks of it. Assumes nothing.
 use Prim.Native.Nat.{_≤_}
 use Rattle.state.specs.declared.Machine.{Machine}
-use Rattle.state.specs.declared.Shape.{Shape}
 
--- what keeps the numbers of slots' cells small
-pub record Small (s : Shape) : Type 0 where
-  pub some : 1 ≤ s .slots
-  pub slots : s .slots ≤ 16
-  pub plain : s .plain ≤ 16
-
--- what keeps the counts small
+-- what keeps the counts and the status numbers small
 pub record Sized (m : Machine) : Type 0 where
-  pub small : Small (m .shape)
+  pub slots : m .shape .slots ≤ 16
   pub steps : m .steps ≤ 4096
   pub held : m .held ≤ 1024

@@ -1,18 +1,15 @@
-// One step on values: what it asks of the list of writes, and what is decided of it once the list is searched.
+// What is decided of a step, on values, once the list of writes is searched.
 ghost use mathlib.Core.Path.{_≡_};
 ghost use mathlib.Core.Bool.{true};
 ghost use Prim.Native.Nat.{_≤_, _-_};
-ghost use Rattle.decision.specs.Bounds.{Small, Sized};
-ghost use Rattle.decision.specs.Decision.{askBy, askOf, rankAskOf, verdictOf, contentBy};
+ghost use Rattle.decision.specs.Bounds.{Sized};
+ghost use Rattle.decision.specs.Decision.{verdictOf, contentBy};
 ghost use Rattle.refusal.specs.Refusal.{refusalBy};
-ghost use Rattle.rules.specs.Step.{valueOf, takenBy, decidedBy, asked, contentIf};
+ghost use Rattle.rules.specs.Access.{accessed};
+ghost use Rattle.rules.specs.Step.{valueOf, takenBy, decidedBy, contentIf};
 ghost use Rattle.standing.specs.Stands.{rankOf, partsStand};
 ghost use Rattle.state.specs.State.{place};
-use access::access_of;
-use access::cell_asked;
-use access::make_access;
-use access::slot_cell;
-use access::stamp_asked;
+use asking::Ask;
 use calls::act;
 use calls::has_status;
 use rules::Decided;
@@ -26,20 +23,33 @@ use writes::Fill;
 use writes::Found;
 use writes::Query;
 
-mod access; // access.rt: the plain access of a step
 mod calls; // calls.rt: the two calls, and what each verb does
-
-// What is asked of the list: the plain access to be made, how many records are searched, and for what.
-pub struct Ask {
-    pub access: Access,
-    pub held: usize,
-    pub query: Query,
-}
 
 // What is decided: the record to store, the answer and the machine.
 pub struct Verdict {
     pub fill: Fill,
     pub done: Done,
+}
+
+// What a plain access does to the machine: a write raises the thread's view there and is held.
+fn make_access(m: Machine, i: usize, a: Access) -> Machine
+    requires { ⌜ m .held ≤ 1024 ⌝ }
+    ensures { λ r. ⌜ r ≡ accessed m i a ⌝ }
+{
+    match a {
+        Access::NoAccess => m,
+        Access::Reads { cell: _, stamp: _ } => m,
+        Access::Writes {
+            cell,
+            stamp,
+            value: _,
+        } => {
+            let row = view::with_stamp(state::row_of(m, i), index(cell), stamp);
+            let mut next = state::with_row(m, i, row);
+            next.held = m.held + 1;
+            next
+        }
+    }
 }
 
 fn value_of(f: Found) -> u32
@@ -85,42 +95,6 @@ fn decide(m: Machine, stand: bool, lent: usize, step: Step, a: Access, f: Found)
     }
 }
 
-// The access that a step makes.
-fn asked_of(m: Machine, step: Step) -> Access
-    requires { ⌜ Small (m .shape) ⌝ }
-    ensures { λ r. ⌜ r ≡ asked m step ⌝ }
-{
-    let verb = step.verb;
-    access_of(m.shape, verb, state::place_of(m, index(step.thread)))
-}
-
-// The list is searched once for an access: whether every held record stands, what the access finds, the newest write of its cell.
-fn ask_by(m: Machine, access: Access) -> Ask
-    ensures { λ r. ⌜ r ≡ askBy m access ⌝ }
-{
-    let cell = cell_asked(access);
-    let first = state::first_of(m, index(cell));
-    let cells = state::cells_of(m);
-    let held = state::held_of(m);
-    let query = writes::sought(cells, first, cell, stamp_asked(access));
-    Ask {
-        access,
-        held,
-        query,
-    }
-}
-
-// What a step asks of a list of so many; a state whose sizes do not stand asks of no cell.
-pub fn ask_of(m: Machine, lent: usize, step: Step) -> Ask
-    ensures { λ r. ⌜ r ≡ askOf m lent step ⌝ }
-{
-    let sized = standing::sizes_stand(m, lent);
-    if sized {
-        return ask_by(m, asked_of(m, step));
-    }
-    ask_by(m, Access::NoAccess)
-}
-
 // What is decided of a step, once the search that was asked for has found q.
 pub fn verdict_of(m: Machine, lent: usize, step: Step, ask: Ask, q: Query) -> Verdict
     ensures { λ r. ⌜ r ≡ verdictOf m lent step (ask .access) q ⌝ }
@@ -133,18 +107,6 @@ pub fn verdict_of(m: Machine, lent: usize, step: Step, ask: Ask, q: Query) -> Ve
     let fill = writes::fill_of(wrote, state::held_of(m), lent);
     let done = decided.done;
     Verdict { fill, done }
-}
-
-// What is asked to know what the queue holds at a rank.
-pub fn ask_rank(m: Machine, lent: usize, rank: u32) -> Ask
-    ensures { λ r. ⌜ r ≡ rankAskOf m lent rank ⌝ }
-{
-    let sized = standing::sizes_stand(m, lent);
-    if sized {
-        let cell = slot_cell(m.shape, rank);
-        return ask_by(m, Access::Reads { cell, stamp: 0 });
-    }
-    ask_by(m, Access::NoAccess)
 }
 
 fn content_if(stand: bool, published: bool, weight: u32) -> Answer

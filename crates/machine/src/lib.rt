@@ -12,7 +12,7 @@ pub fn step(m: Machine, ws: &mut [Write], step: Step) -> Done
     ensures { λ r. ⌜ outcome r (now (ws .exit)) ≡ stepOf m (now (ws .entry)) step ⌝ }
 {
     let lent = ws.len();
-    let ask = decision::ask_of(m, lent, step);
+    let ask = asking::ask_of(m, lent, step);
     let found = writes::search(ws, ask.held, ask.query);
     let verdict = decision::verdict_of(m, lent, step, ask, found);
     writes::store(ws, verdict.fill.at, verdict.fill.write);
@@ -24,7 +24,7 @@ pub fn step(m: Machine, ws: &mut [Write], step: Step) -> Done
 pub fn content(m: Machine, ws: [Write; 1024], rank: u32) -> Answer
     ensures { λ r. ⌜ r ≡ contentOf m ws rank ⌝ }
 {
-    let ask = decision::ask_rank(m, 1024, rank);
+    let ask = asking::ask_rank(m, 1024, rank);
     let found = writes::search_kept(ws, ask.held, ask.query);
     decision::content_by(m, 1024, rank, found)
 }

@@ -10,7 +10,7 @@ act-requires c κs =
     let a = c .before .before .before .args in
     let i = c .before .before .index in (
       rw (c .before .make-access .ensures, i .ensures, accessed-place (a .m) (a .step .thread - 1) (a .a) (a .step .thread - 1)) (c .before .before .before .pre .1),
-      rw (c .before .make-access .ensures, accessed-shape (a .m) (i .result) (a .a)) (c .before .before .before .pre .0 .small .slots),
+      rw (c .before .make-access .ensures, accessed-shape (a .m) (i .result) (a .a)) (c .before .before .before .pre .0 .slots),
     )
 
 returns : tie.Need-returns

@@ -42,8 +42,9 @@ use denote.Triple.Spec.{Meets, tripleOf}
 use denote.Triple.Table.{entered, cited}
 use denote.Triple.Walked.{says, Stays, stay-none, gave-slice, walkOf, goes-none, goes-gave-slice, Walks, ends-at, walked, walk-meets}
 use denote.Exit.{yes}
-use Rattle.decision.specs.Decision.{askOf, verdictOf}
-use Rattle.decision.specs.declared.Ask.{Ask}
+use Rattle.asking.specs.Ask.{askOf}
+use Rattle.asking.specs.declared.Ask.{Ask}
+use Rattle.decision.specs.Decision.{verdictOf}
 use Rattle.decision.specs.declared.Verdict.{Verdict}
 use Rattle.rules.specs.Step.{outcome, stepOf}
 use Rattle.state.specs.declared.Machine.{Machine}
@@ -55,8 +56,8 @@ use Rattle.decision.proofs.Settled.{settled}
 use Rattle.writes.proofs.Calling.{calls-values}
 use Rattle.writes.proofs.Lent.{Search, Store, calls-search, calls-store, lent-at, query-vals}
 use Rattle.writes.proofs.Shared.{LentShared, lends-shared, shared-back}
-use Rattle.decision.proofs.Ask as K
-use Rattle.decision.proofs.Ask.Laws as K′
+use Rattle.asking.proofs.Ask as K
+use Rattle.asking.proofs.Ask.Laws as K′
 use Rattle.decision.proofs.Verdict as J
 use Rattle.decision.proofs.Verdict.Laws as J′
 use Rattle.rules.proofs.Done as D
@@ -70,10 +71,10 @@ use Rattle.writes.proofs.Fill.Laws as F′
 use Rattle.writes.proofs.Query as Q
 use Rattle.writes.proofs.Query.Laws as Q′
 use Rattle.writes.proofs.Write as T
-use Rattle.decision.proofs.ask_of as ask-of
-use Rattle.decision.proofs.ask_of.Symbol as ask-of-def
-use Rattle.decision.proofs.ask_of.Symbol.{name as #ask-of}
-use Rattle.decision.proofs.ask_of.Met as ask-of-thm
+use Rattle.asking.proofs.ask_of as ask-of
+use Rattle.asking.proofs.ask_of.Symbol as ask-of-def
+use Rattle.asking.proofs.ask_of.Symbol.{name as #ask-of}
+use Rattle.asking.proofs.ask_of.Met as ask-of-thm
 use Rattle.decision.proofs.verdict_of as verdict-of
 use Rattle.decision.proofs.verdict_of.Symbol as verdict-of-def
 use Rattle.decision.proofs.verdict_of.Symbol.{name as #verdict-of}
@@ -275,19 +276,22 @@ module _ {M : Type 1} (𝓤 : URA M) (H : Heap 𝓤) (A : Atoms 𝓤) (W : Given
           assigns ! (agg ! (and-then ! (load ! (from ! (stop !)) (look ! 4 refl))
           (and-then ! (load ! (from ! (fld ! refl (stop !))) (look-in ! 22 (sub ! 1 refl (whole !)))) (no-more !)))) (from ! (stop !))
           (init ! 2 refl (tt, (tt, (record { fits = room .0 }, tt)))) $
-          -- the slice is given to `store` for good
+          -- the slice is given to `store` for good; the offsets in the verdict are written out, since found by antt they are large terms
           calls-store ! fm at-mem run known-store κ q b o γ ws (v .fill .at) (v .fill .write) (gf .0 .1) (gf .1 .0)
           (and-then ! (load ! (from ! (stop !)) (look ! 1 refl))
-          (and-then ! (load ! (from ! (fld ! refl (fld ! refl (stop !)))) (look-in ! 11 (sub ! 0 refl (sub ! 0 refl (whole !)))))
-          (and-then ! (load ! (from ! (fld ! refl (fld ! refl (stop !)))) (look-in ! 11 (sub ! 1 refl (sub ! 0 refl (whole !)))))
+          (and-then ! (load ! (from ! (fld ! {τ = F′.mir} {d = 0} refl (fld ! {d = 0} refl (stop !))))
+          (look-in ! 11 (sub ! 0 {d = 0} refl (sub ! 0 {τ = F′.mir} {d = 0} refl (whole !)))))
+          (and-then ! (load ! (from ! (fld ! {τ = F′.mir} {d = 0} refl (fld ! {d = 8} refl (stop !))))
+          (look-in ! 11 (sub ! 1 {d = 8} refl (sub ! 0 {τ = F′.mir} {d = 0} refl (whole !)))))
           (no-more !)))) (λ us e l.
           -- [the token; ws's last list; _12 (2); …; _j (26 - 2 j); …]
           land ! (from ! (stop !)) (init ! 6 refl (tt, tt)) $
-          assigns ! (of-opd ! (load ! (from ! (fld ! refl (stop !))) (look-in ! 12 (sub ! 1 refl (whole !))))) (from ! (stop !))
+          assigns ! (of-opd ! (load ! (from ! (fld ! {τ = D′.mir} {d = 24} refl (stop !)))
+          (look-in ! 12 (sub ! 1 {τ = D′.mir} {d = 24} refl (whole !))))) (from ! (stop !))
           (init ! 26 refl (LL.lawful D.the-type D′.the-laws 𝓤 H A W .typed (v .done) _ (gv .1 .0) .0)) $
           returns ! (look ! 26 refl) $ forget ! 2 refl $ forget ! 4 refl $ forget ! 6 refl $ forget ! 8 refl $ forget ! 10 refl $
-          forget ! 12 refl $
-          forget ! 14 refl $ forget ! 16 refl $ forget ! 18 refl $ forget ! 20 refl $ forget ! 22 refl $ forget ! 24 refl $ forget ! 26 refl $
+          forget ! 12 refl $ forget ! 14 refl $ forget ! 16 refl $ forget ! 18 refl $ forget ! 20 refl $ forget ! 22 refl $
+          forget ! 24 refl $ forget ! 26 refl $
           move ! (26 ∷ 27 ∷ []) $ free1 ! $ move ! (24 ∷ 25 ∷ []) $ free1 ! $ move ! (22 ∷ 23 ∷ []) $ free1 ! $ move ! (20 ∷ 21 ∷ []) $ free1 ! $
           move ! (18 ∷ 19 ∷ []) $ free1 ! $ move ! (16 ∷ 17 ∷ []) $ free1 ! $ move ! (14 ∷ 15 ∷ []) $ free1 ! $ move ! (12 ∷ 13 ∷ []) $ free1 ! $
           move ! (10 ∷ 11 ∷ []) $ free1 ! $ move ! (8 ∷ 9 ∷ []) $ free1 ! $ move ! (6 ∷ 7 ∷ []) $ free1 ! $ move ! (4 ∷ 5 ∷ []) $ free1 ! $
@@ -335,7 +339,7 @@ step-spec 𝓤 H 𝓜 𝓖 𝓡 =
     entered 𝓤 H (tripleOf 𝓤 H (𝓖 .A) f.signature (f.spec 𝓤 H (𝓖 .A) (𝓜 .mem) (𝓡 .run)))
     (tables 𝓤 H 𝓜 𝓡 code.env .C) (tables 𝓤 H 𝓜 𝓡 code.env .Λ) #key code.function (code.unfolded 𝓤 H 𝓜 𝓡)
     (step-meets 𝓤 H (𝓖 .A) (givenOf 𝓤 H 𝓜 𝓖) (𝓜 .mem) (𝓡 .run) (tablesOf 𝓤 H 𝓜 (tables 𝓤 H 𝓜 𝓡 code.env))
-    (λ m n s. cited 𝓤 H (AskFn 𝓤 H (𝓖 .A) (𝓜 .mem) (𝓡 .run) m n s) 𝓜 𝓡 code.env #ask-of ask-of-def.routine code.calls-decision·ask-of
+    (λ m n s. cited 𝓤 H (AskFn 𝓤 H (𝓖 .A) (𝓜 .mem) (𝓡 .run) m n s) 𝓜 𝓡 code.env #ask-of ask-of-def.routine code.calls-asking·ask-of
     (ask-of-thm.met 𝓤 H 𝓜 𝓖 𝓡))
     (cited 𝓤 H (Search 𝓤 H (𝓖 .A) (𝓜 .mem) (𝓡 .run)) 𝓜 𝓡 code.env #search search-def.routine code.calls-writes·search (search-thm.met 𝓤 H 𝓜 𝓖 𝓡))
     (λ m n s. cited 𝓤 H (VerdictFn 𝓤 H (𝓖 .A) (𝓜 .mem) (𝓡 .run) m n s) 𝓜 𝓡 code.env #verdict-of verdict-of-def.routine

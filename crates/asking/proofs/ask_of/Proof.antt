@@ -1,9 +1,9 @@
 use mathlib.Core.Path.{sym, _∙_}
 use borrow.Author.Needs.{needs}
-use Rattle.decision.specs.Decision.{askOf}
-use Rattle.decision.proofs.Sizes.{small}
-use Rattle.decision.proofs.ask_of.Statement.{statement}
-use Rattle.decision.proofs.ask_of.Tie as tie
+use Rattle.asking.specs.Ask.{askOf}
+use Rattle.asking.proofs.Sizes.{small}
+use Rattle.asking.proofs.ask_of.Statement.{statement}
+use Rattle.asking.proofs.ask_of.Tie as tie
 
 asked-of-requires : tie.Need-asked-of-requires
 asked-of-requires c κs = small _ _ (sym (c .before .sizes-stand .ensures) ∙ c .if1 .taken)

@@ -1,7 +1,7 @@
 use borrow.Author.Needs.{needs}
-use Rattle.decision.specs.Decision.{askBy}
-use Rattle.decision.proofs.ask_by.Statement.{statement}
-use Rattle.decision.proofs.ask_by.Tie as tie
+use Rattle.asking.specs.Ask.{askBy}
+use Rattle.asking.proofs.ask_by.Statement.{statement}
+use Rattle.asking.proofs.ask_by.Tie as tie
 
 returns : tie.Need-returns
 unfolding askBy

@@ -3,8 +3,8 @@ use native.Mathlib.Nat.{mod-lt}
 use borrow.Author.Needs.{needs}
 use Rattle.rules.specs.Access.{slotCell}
 use Rattle.rank.specs.Rank.{slotOf}
-use Rattle.decision.proofs.access.slot_cell.Statement.{statement}
-use Rattle.decision.proofs.access.slot_cell.Tie as tie
+use Rattle.asking.proofs.slot_cell.Statement.{statement}
+use Rattle.asking.proofs.slot_cell.Tie as tie
 
 add-result-2 : tie.Need-add-result-2
 unfolding slotOf

@@ -1,9 +1,9 @@
 use mathlib.Core.Path.{sym, _∙_}
 use borrow.Author.Needs.{needs}
-use Rattle.decision.specs.Decision.{rankAskOf}
-use Rattle.decision.proofs.Sizes.{small}
-use Rattle.decision.proofs.ask_rank.Statement.{statement}
-use Rattle.decision.proofs.ask_rank.Tie as tie
+use Rattle.asking.specs.Ask.{rankAskOf}
+use Rattle.asking.proofs.Sizes.{small}
+use Rattle.asking.proofs.ask_rank.Statement.{statement}
+use Rattle.asking.proofs.ask_rank.Tie as tie
 
 slot-cell-requires : tie.Need-slot-cell-requires
 slot-cell-requires c κs = small _ _ (sym (c .before .sizes-stand .ensures) ∙ c .if1 .taken)

@@ -1,7 +1,7 @@
 use borrow.Author.Needs.{needs}
 use Rattle.rules.specs.Access.{accessed}
-use Rattle.decision.proofs.access.make_access.Statement.{statement}
-use Rattle.decision.proofs.access.make_access.Tie as tie
+use Rattle.decision.proofs.make_access.Statement.{statement}
+use Rattle.decision.proofs.make_access.Tie as tie
 
 returns : tie.Need-returns
 unfolding accessed

@@ -1,6 +1,6 @@
 use borrow.Author.Needs.{needs}
-use Rattle.decision.proofs.asked_of.Statement.{statement}
-use Rattle.decision.proofs.asked_of.Tie as tie
+use Rattle.asking.proofs.asked_of.Statement.{statement}
+use Rattle.asking.proofs.asked_of.Tie as tie
 
 returns : tie.Need-returns
 returns c = rw (c .access-of .ensures, c .before .place-of .ensures, c .before .before .index .ensures)

@@ -1,6 +1,6 @@
 use borrow.Author.Needs.{needs}
-use Rattle.decision.proofs.access.access_of.Statement.{statement}
-use Rattle.decision.proofs.access.access_of.Tie as tie
+use Rattle.asking.proofs.access_of.Statement.{statement}
+use Rattle.asking.proofs.access_of.Tie as tie
 
 returns : tie.Need-returns
 returns c = rw (c .before .verb .given .1)

@@ -1,17 +1,27 @@
-// The plain access of a step.
+// What a step asks of the list of writes: its plain access, and the one search that serves it.
 ghost use mathlib.Core.Path.{_≡_};
-ghost use Prim.Native.Nat.{_≤_};
-ghost use Rattle.decision.specs.Bounds.{Small};
-ghost use Rattle.rules.specs.Access.{slotCell, stampedAt, accessOf, cellAsked, stampAsked, accessed};
+ghost use Rattle.asking.specs.Ask.{askBy, askOf, rankAskOf};
+ghost use Rattle.asking.specs.Bounds.{Small};
+ghost use Rattle.rules.specs.Access.{slotCell, stampedAt, accessOf, cellAsked, stampAsked};
+ghost use Rattle.rules.specs.Step.{asked};
 use state::Machine;
 use state::Place;
 use state::Shape;
 use state::index;
+use step::Step;
 use step::Verb;
 use writes::Access;
+use writes::Query;
+
+// What is asked of the list: the plain access to be made, how many records are searched, and for what.
+pub struct Ask {
+    pub access: Access,
+    pub held: usize,
+    pub query: Query,
+}
 
 // The cell that a record names for the slot of a rank.
-pub(crate) fn slot_cell(shape: Shape, rank: u32) -> u32
+fn slot_cell(shape: Shape, rank: u32) -> u32
     requires { ⌜ Small shape ⌝ }
     ensures { λ r. ⌜ r ≡ slotCell shape rank ⌝ }
 {
@@ -46,7 +56,7 @@ fn stamped_at(shape: Shape, p: Place, stamp: u32) -> Access
     }
 }
 
-pub(crate) fn access_of(shape: Shape, verb: Verb, p: Place) -> Access
+fn access_of(shape: Shape, verb: Verb, p: Place) -> Access
     requires { ⌜ Small shape ⌝ }
     ensures { λ r. ⌜ r ≡ accessOf shape verb p ⌝ }
 {
@@ -67,7 +77,7 @@ pub(crate) fn access_of(shape: Shape, verb: Verb, p: Place) -> Access
     }
 }
 
-pub(crate) fn cell_asked(a: Access) -> u32
+fn cell_asked(a: Access) -> u32
     ensures { λ r. ⌜ r ≡ cellAsked a ⌝ }
 {
     match a {
@@ -81,7 +91,7 @@ pub(crate) fn cell_asked(a: Access) -> u32
     }
 }
 
-pub(crate) fn stamp_asked(a: Access) -> u32
+fn stamp_asked(a: Access) -> u32
     ensures { λ r. ⌜ r ≡ stampAsked a ⌝ }
 {
     match a {
@@ -95,23 +105,50 @@ pub(crate) fn stamp_asked(a: Access) -> u32
     }
 }
 
-// What a plain access does to the machine: a write raises the thread's view there and is held.
-pub(crate) fn make_access(m: Machine, i: usize, a: Access) -> Machine
-    requires { ⌜ m .held ≤ 1024 ⌝ }
-    ensures { λ r. ⌜ r ≡ accessed m i a ⌝ }
+// The access that a step makes.
+fn asked_of(m: Machine, step: Step) -> Access
+    requires { ⌜ Small (m .shape) ⌝ }
+    ensures { λ r. ⌜ r ≡ asked m step ⌝ }
 {
-    match a {
-        Access::NoAccess => m,
-        Access::Reads { cell: _, stamp: _ } => m,
-        Access::Writes {
-            cell,
-            stamp,
-            value: _,
-        } => {
-            let row = view::with_stamp(state::row_of(m, i), index(cell), stamp);
-            let mut next = state::with_row(m, i, row);
-            next.held = m.held + 1;
-            next
-        }
+    let verb = step.verb;
+    access_of(m.shape, verb, state::place_of(m, index(step.thread)))
+}
+
+// The list is searched once for an access: whether every held record stands, what the access finds, the newest write of its cell.
+fn ask_by(m: Machine, access: Access) -> Ask
+    ensures { λ r. ⌜ r ≡ askBy m access ⌝ }
+{
+    let cell = cell_asked(access);
+    let first = state::first_of(m, index(cell));
+    let cells = state::cells_of(m);
+    let held = state::held_of(m);
+    let query = writes::sought(cells, first, cell, stamp_asked(access));
+    Ask {
+        access,
+        held,
+        query,
     }
+}
+
+// What a step asks of a list of so many; a state whose sizes do not stand asks of no cell.
+pub fn ask_of(m: Machine, lent: usize, step: Step) -> Ask
+    ensures { λ r. ⌜ r ≡ askOf m lent step ⌝ }
+{
+    let sized = standing::sizes_stand(m, lent);
+    if sized {
+        return ask_by(m, asked_of(m, step));
+    }
+    ask_by(m, Access::NoAccess)
+}
+
+// What is asked to know what the queue holds at a rank.
+pub fn ask_rank(m: Machine, lent: usize, rank: u32) -> Ask
+    ensures { λ r. ⌜ r ≡ rankAskOf m lent rank ⌝ }
+{
+    let sized = standing::sizes_stand(m, lent);
+    if sized {
+        let cell = slot_cell(m.shape, rank);
+        return ask_by(m, Access::Reads { cell, stamp: 0 });
+    }
+    ask_by(m, Access::NoAccess)
 }

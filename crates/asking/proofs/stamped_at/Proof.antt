@@ -1,6 +1,6 @@
 use borrow.Author.Needs.{needs}
-use Rattle.decision.proofs.access.stamped_at.Statement.{statement}
-use Rattle.decision.proofs.access.stamped_at.Tie as tie
+use Rattle.asking.proofs.stamped_at.Statement.{statement}
+use Rattle.asking.proofs.stamped_at.Tie as tie
 
 returns-4 : tie.Need-returns-4
 returns-4 c = rw (c .before .before .p .given .1, c .slot-cell .ensures)
