@@ -12,7 +12,7 @@ use Rattle.decision.specs.declared.Verdict.{Verdict}
 use Rattle.laws.specs.Tests.{_and_}
 use Rattle.rank.specs.Rank.{fullStatus}
 use Rattle.refusal.specs.Refusal.{refusalBy}
-use Rattle.rules.specs.Access.{slotCell, cellAsked, stampAsked, foundBy}
+use Rattle.rules.specs.Access.{slotCell, cellAsked, stampAsked, foundBy, lookedBy}
 use Rattle.rules.specs.Calls.{statusName}
 use Rattle.rules.specs.Step.{outcome, decidedBy, asked, refusalOf, decidedOf, stepOf, contentIf, contentOf}
 use Rattle.rules.specs.declared.Decided.{Decided}
@@ -42,9 +42,10 @@ module _ (m : Machine) (ws : List Write) where
   stands-for : (a : Access) → standsBy m (length ws) (foundFor m ws a) ≡ stands m ws
   stands-for a = stands-found m ws (firstOf m (cellAsked a - 1)) (cellAsked a) (stampAsked a)
 
-  looked-for : (a : Access) → sizesStand m (length ws) ≡ true
-      → foundFor m ws a .looked ≡ searchOf (cellsOf m) (firstOf m (cellAsked a - 1)) ws (cellAsked a) (stampAsked a) (m .held)
-  looked-for a e = searched-is (cellsOf m) (firstOf m (cellAsked a - 1)) ws (cellAsked a) (stampAsked a) (m .held) (sizes m (length ws) e .room)
+  looked-for : (a : Access) → sizesStand m (length ws) ≡ true → foundFor m ws a .looked ≡ lookedBy m ws a
+  unfolding lookedBy
+  looked-for a e =
+      searched-is (cellsOf m) (firstOf m (cellAsked a - 1)) ws (cellAsked a) (stampAsked a) (m .held) (sizes m (length ws) e .room)
 
   module _ (s : Step) where
     abbrev by : Access → Bool → Found → Decided
@@ -54,7 +55,7 @@ module _ (m : Machine) (ws : List Write) where
     decided a = by a (standsBy m (length ws) (foundFor m ws a)) (foundFor m ws a .looked .found)
 
     decided-is : (z : Bool) → sizesStand m (length ws) ≡ z → decided (askedIf z (asked m s)) ≡ decidedOf m ws s
-    unfolding decidedOf refusalOf foundBy searchOf refusalBy stands _and_
+    unfolding decidedOf refusalOf foundBy lookedBy searchOf refusalBy stands _and_
     decided-is true e =
         ap (λ (b : Bool). by (asked m s) b (foundFor m ws (asked m s) .looked .found)) (stands-for (asked m s))
         ∙ ap (λ (l : Looked). by (asked m s) (stands m ws) (l .found)) (looked-for (asked m s) e)
@@ -82,7 +83,7 @@ module _ (m : Machine) (ws : List Write) where
     shown a = shown-by (standsBy m (length ws) (foundFor m ws a)) (foundFor m ws a .looked .newest .value)
 
     shown-is : (z : Bool) → sizesStand m (length ws) ≡ z → shown (askedIf z (Reads (slotCell (m .shape) k) 0)) ≡ contentOf m ws k
-    unfolding contentOf searchOf stands _and_
+    unfolding contentOf lookedBy searchOf stands _and_
     shown-is true e =
         let a = Reads (slotCell (m .shape) k) 0 in
         ap (λ (b : Bool). shown-by b (foundFor m ws a .looked .newest .value)) (stands-for a)
