@@ -4,7 +4,7 @@ ghost use Rattle.number.specs.Promise.{CountReadBack, CountOnlyText, WeightRead
 ghost use Rattle.texts.specs.Promise.{LineReadBack, LineOnlyText, LineOneText};
 ghost use Rattle.texts.specs.Promise.{ScheduleReadBack, ScheduleOnlyText};
 ghost use Rattle.cases.specs.Table.{StarredHold};
-ghost use Rattle.rules.specs.Kept.{Numbered, RefusedKeeps, TakenCounts, StandingKept, FreshStands, FreshWhole, WholeKept, RefusedFalls, OverRecords, RoomKept};
+ghost use Rattle.rules.specs.Kept.{Numbered, RefusedKeeps, TakenCounts, StandingKept, FreshStands, FreshWhole, WholeKept, RefusedFalls, RoomKept};
 ghost use Rattle.published.specs.Follows.{TakenFollows, AllowedTaken, OneEvent};
 ghost use Rattle.rules.specs.Queue.{QueueHolds};
 ghost use Rattle.rules.specs.Reached.{ReachedHolds};
@@ -50,11 +50,6 @@ pub fn standing_is_kept()
 // Room that a machine lacks is changed by no step; the lists that stand for arrays stay as long as the arrays.
 pub fn room_is_kept()
     ensures { λ r. ⌜ RoomKept × FreshWhole × WholeKept ⌝ }
-{}
-
-// Over three lent lists of numbers, a step does what it does over the list of writes that they are.
-pub fn lists_are_records()
-    ensures { λ r. ⌜ OverRecords ⌝ }
 {}
 
 // A step is taken exactly when it is admitted and the published rules allow it, and it does what the rule says.

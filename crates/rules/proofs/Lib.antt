@@ -1,6 +1,5 @@
 pub mod Accessed
 pub mod Refused
-pub mod Over
 pub mod Views
 pub mod Standing
 pub mod Fresh

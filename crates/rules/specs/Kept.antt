@@ -3,7 +3,7 @@ use mathlib.Core.Path.{_≡_}
 use mathlib.Core.Bool.{true, false}
 use mathlib.Core.List.{List}
 use Prim.Native.Nat.{ℕ, _+_, _<_, _≤_}
-use Rattle.rules.specs.Step.{refusalOf, stepOf, stepOver}
+use Rattle.rules.specs.Step.{refusalOf, stepOf}
 use Rattle.opening.specs.Opening.{openedOf}
 use Rattle.standing.specs.Stands.{stands}
 use Rattle.state.specs.State.{cellsOf, row, place, atomicAt, Whole}
@@ -14,7 +14,6 @@ use Rattle.state.specs.declared.Shape.{Shape}
 use Rattle.step.specs.Answer.{numberOf}
 use Rattle.step.specs.declared.Step.{Step}
 use Rattle.view.specs.View.{stampOf}
-use Rattle.writes.specs.Records.{records}
 use Rattle.writes.specs.declared.Write.{Write}
 
 abbrev pub numberGiven : Machine → List Write → Step → ℕ
@@ -59,14 +58,6 @@ abbrev pub RefusedFalls : Type 0
 RefusedFalls =
     (t c : ℕ) (plain flags : List ℕ) (ws : List Write) → 0 < numberOf (openedOf t c plain flags .answer)
     → stands (openedOf t c plain flags .machine) ws ≡ false
-
--- Over three lent lists a step does the same: their records afterwards are the list that the step leaves.
-abbrev pub OverRecords : Type 0
-OverRecords =
-    (m : Machine) (cs ts vs : List ℕ) (s : Step)
-    → (stepOver m cs ts vs s .done ≡ stepOf m (records cs ts vs) s .done)
-    × (records (stepOver m cs ts vs s .cells) (stepOver m cs ts vs s .stamps) (stepOver m cs ts vs s .values)
-    ≡ stepOf m (records cs ts vs) s .writes)
 
 -- an atomic cell that this machine lacks
 abbrev pub Lacks : Shape → Name → Type 0

@@ -18,7 +18,7 @@ use Rattle.step.specs.declared.Answer.{Answer}
 use Rattle.step.specs.declared.Answer.the-variants.{Dash, Value, Refused}
 use Rattle.step.specs.declared.Step.{Step}
 use Rattle.writes.specs.History.{newest}
-use Rattle.writes.specs.Records.{records, recorded, inCells, inStamps, inValues}
+use Rattle.writes.specs.Records.{recorded}
 use Rattle.writes.specs.declared.Access.{Access}
 use Rattle.writes.specs.declared.Access.the-variants.{NoAccess}
 use Rattle.writes.specs.declared.Found.{Found}
@@ -70,22 +70,6 @@ outcome d ws = record { done = d; writes = ws }
 -- One step, for every state, list and step: its answer, the state and the list afterwards.
 unfoldable pub stepOf : Machine → List Write → Step → Outcome
 stepOf m ws s = outcome (decidedOf m ws s .done) (recorded (decidedOf m ws s .wrote) (m .held) ws)
-
--- the same over three lent lists of numbers
-pub record Over : Type 0 where
-  pub done : Done
-  pub cells : List ℕ
-  pub stamps : List ℕ
-  pub values : List ℕ
-
-abbrev pub after : Done → List ℕ → List ℕ → List ℕ → Over
-after d cs ts vs = record { done = d; cells = cs; stamps = ts; values = vs }
-
-abbrev pub afterBy : Decided → ℕ → List ℕ → List ℕ → List ℕ → Over
-afterBy d held cs ts vs = after (d .done) (inCells (d .wrote) held cs) (inStamps (d .wrote) held ts) (inValues (d .wrote) held vs)
-
-unfoldable pub stepOver : Machine → List ℕ → List ℕ → List ℕ → Step → Over
-stepOver m cs ts vs s = afterBy (decidedOf m (records cs ts vs) s) (m .held) cs ts vs
 
 -- What a queue holds: the weight at the greatest stamp of the rank's slot if its status is 2 times rank plus 1, else `-`.
 abbrev pub contentIf : Bool → Bool → ℕ → Answer

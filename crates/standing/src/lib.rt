@@ -1,8 +1,8 @@
-// Which states can stand (refusal 14), and the opening.
+// Which states can stand (refusal 14).
 ghost use mathlib.Core.Path.{_≡_};
-ghost use lib.Dec.{leb};
-ghost use lib.ListN.{length, getD};
-ghost use Rattle.writes.specs.Records.{records};
+ghost use Rattle.laws.specs.Tests.{_and_};
+ghost use Rattle.state.specs.State.{cellsOf};
+ghost use Rattle.writes.specs.Searched.{soughtOf};
 ghost use Rattle.standing.specs.Stands.{rankOf, weightOf, placeStands, threadStands, threadsStand, firstsStand, atomicStands, nameIn, atomicsStand, inShape, shapeStands, sizesStand, partsStand, stands};
 use laws::both;
 use state::Atomic;
@@ -11,6 +11,8 @@ use state::Name;
 use state::Place;
 use state::Shape;
 use step::MOST;
+use writes::Query;
+use writes::Write;
 
 // T, C, the number of plain cells and that of flags are in range.
 pub fn in_shape(threads: usize, slots: usize, plain: usize, flags: usize) -> bool
@@ -175,23 +177,30 @@ pub fn parts_stand(m: Machine) -> bool
     both(threads_stand(m), both(firsts_stand(m), cells))
 }
 
-// The whole state and list can stand.
-pub fn state_stands(m: Machine, cells: &[u32], stamps: &[u32], values: &[u32]) -> bool
-    ensures { λ r. ⌜ r ≡ stands m (records (now (cells .entry)) (now (stamps .entry)) (now (values .entry))) ⌝ }
+// The whole state and a list of so many can stand, where a search of the held records has found so much.
+pub fn stands_by(m: Machine, lent: usize, q: Query) -> bool
+    ensures { λ r. ⌜ r ≡ sizesStand m lent and (partsStand m and q .looked .stand) ⌝ }
 {
-    let sized = sizes_stand(m, writes::lent(cells, stamps, values));
+    let sized = sizes_stand(m, lent);
     if !sized {
         return false;
     }
-    let looked = writes::search(
-        cells,
-        stamps,
-        values,
-        m.held as usize,
-        state::cells_of(m),
-        0,
-        0,
-        0,
-    );
+    let looked = q.looked;
     both(parts_stand(m), looked.stand)
+}
+
+// A search that asks of no cell, only whether every held record stands.
+fn asked_of(m: Machine) -> Query
+    ensures { λ r. ⌜ r ≡ soughtOf (cellsOf m) 0 0 0 ⌝ }
+{
+    writes::sought(state::cells_of(m), 0, 0, 0)
+}
+
+// The whole state and list can stand.
+pub fn state_stands(m: Machine, ws: &[Write]) -> bool
+    ensures { λ r. ⌜ r ≡ stands m (now (ws .entry)) ⌝ }
+{
+    let lent = ws.len();
+    let q = writes::search(ws, state::held_of(m), asked_of(m));
+    stands_by(m, lent, q)
 }

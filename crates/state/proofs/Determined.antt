@@ -2,6 +2,7 @@
 use Rattle.laws.proofs.Determined.{determined, OneResult}
 use Rattle.state.proofs.zero_atomic.Reads as zero-atomic
 use Rattle.state.proofs.cells_of.Reads as cells-of
+use Rattle.state.proofs.held_of.Reads as held-of
 use Rattle.state.proofs.row_of.Reads as row-of
 use Rattle.state.proofs.with_row.Reads as with-row
 use Rattle.state.proofs.place_of.Reads as place-of
@@ -16,6 +17,9 @@ zero-atomic-determined κs a x y e f = determined
 
 pub cells-of-determined : OneResult cells-of.Post
 cells-of-determined κs a x y e f = determined
+
+pub held-of-determined : OneResult held-of.Post
+held-of-determined κs a x y e f = determined
 
 pub row-of-determined : OneResult row-of.Post
 row-of-determined κs a x y e f = determined

@@ -74,6 +74,12 @@ pub fn cells_of(m: Machine) -> usize
     (shape.plain as usize) + (shape.slots as usize)
 }
 
+pub fn held_of(m: Machine) -> usize
+    ensures { λ r. ⌜ r ≡ m .held ⌝ }
+{
+    m.held as usize
+}
+
 // The view of thread i (from 0), and zero past the last.
 pub fn row_of(m: Machine, i: usize) -> View
     ensures { λ r. ⌜ r ≡ row m i ⌝ }

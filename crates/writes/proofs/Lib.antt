@@ -1,3 +1,7 @@
-pub mod Records
 pub mod History
+pub mod Searched
+pub mod Calling
+pub mod Shared
+pub mod Arrays
+pub mod Lent
 pub mod Determined

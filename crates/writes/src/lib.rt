@@ -1,11 +1,11 @@
-// The list of writes, lent as three lists of numbers: record i is cell, stamp and value at i. One search, one store.
+// The list of writes, lent as a slice of records. One search, one store: nothing else touches it.
 ghost use mathlib.Core.Path.{_≡_};
 ghost use Prim.Native.Nat.{min};
-ghost use lib.ListN.{length, getD, set};
-ghost use Rattle.writes.specs.Records.{records, nth, inCells, inStamps, inValues};
-ghost use Rattle.writes.specs.History.{earlier, presentIf, shownBy, newer, recordStands, searchOf};
+ghost use lib.ListN.{set, take};
+ghost use Rattle.writes.specs.Records.{noWrite, fill, fillOf};
+ghost use Rattle.writes.specs.History.{earlier, presentIf, shownBy, newer, recordStands};
+ghost use Rattle.writes.specs.Searched.{soughtOf, lookedAt, searched};
 use laws::both;
-use laws::number_at;
 use step::MOST;
 
 pub struct Write {
@@ -33,6 +33,14 @@ pub struct Looked {
     pub newest: Newest,
 }
 
+// What a search asks of a machine with so many cells, and what it has found so far.
+pub struct Query {
+    pub cells: usize,
+    pub cell: u32,
+    pub stamp: u32,
+    pub looked: Looked,
+}
+
 // The plain access that a step makes.
 pub enum Access {
     NoAccess,
@@ -40,34 +48,16 @@ pub enum Access {
     Writes { cell: u32, stamp: u32, value: u32 },
 }
 
+// The record that an access fills, and where.
+pub struct Fill {
+    pub at: usize,
+    pub write: Write,
+}
+
 fn less(x: usize, y: usize) -> usize
     ensures { λ r. ⌜ r ≡ min x y ⌝ }
 {
     if x < y { x } else { y }
-}
-
-// How many records are lent.
-pub fn lent(cells: &[u32], stamps: &[u32], values: &[u32]) -> usize
-    ensures { λ r. ⌜ r ≡ length (records (now (cells .entry)) (now (stamps .entry)) (now (values .entry))) ⌝ }
-{
-    less(cells.len(), less(stamps.len(), values.len()))
-}
-
-// Record i, and zeros past the last.
-pub fn write_at(cells: &[u32], stamps: &[u32], values: &[u32], i: usize) -> Write
-    ensures { λ r. ⌜ r ≡ nth (records (now (cells .entry)) (now (stamps .entry)) (now (values .entry))) i ⌝ }
-{
-    if i < lent(cells, stamps, values) {
-        let cell = number_at(cells, i);
-        let stamp = number_at(stamps, i);
-        let value = number_at(values, i);
-        return Write { cell, stamp, value };
-    }
-    Write {
-        cell: 0,
-        stamp: 0,
-        value: 0,
-    }
 }
 
 fn present_if(test: bool, value: u32) -> Found
@@ -120,61 +110,102 @@ fn record_stands(w: Write, k: usize) -> bool
     )
 }
 
-// A search of the first n records for cell and stamp: the cell's first write has the value first, and the machine has k cells.
-pub fn search(
-    cells: &[u32],
-    stamps: &[u32],
-    values: &[u32],
-    n: usize,
-    k: usize,
-    first: u32,
-    cell: u32,
-    stamp: u32,
-) -> Looked
-    ensures { λ r. ⌜ r ≡ searchOf k first (records (now (cells .entry)) (now (stamps .entry)) (now (values .entry))) cell stamp n ⌝ }
+// A search for a cell and a stamp before any record: the cell's first write has the value first, and the machine has k cells.
+pub fn sought(k: usize, first: u32, cell: u32, stamp: u32) -> Query
+    ensures { λ r. ⌜ r ≡ soughtOf k first cell stamp ⌝ }
 {
-    let mut stand = true;
-    let mut found = present_if(stamp == 0, first);
-    let mut newest = Newest {
+    let found = present_if(stamp == 0, first);
+    let newest = Newest {
         stamp: 0,
         value: first,
     };
-    let mut i: usize = 0;
-    while i < n {
-        let w = write_at(cells, stamps, values, i);
-        stand = both(stand, record_stands(w, k));
-        found = earlier_of(found, shown_by(w, cell, stamp));
-        newest = newer_of(newest, w, cell);
-        i += 1;
+    let looked = Looked {
+        stand: true,
+        found,
+        newest,
+    };
+    Query {
+        cells: k,
+        cell,
+        stamp,
+        looked,
     }
-    Looked {
+}
+
+// One record more.
+fn look_at(q: Query, w: Write) -> Query
+    ensures { λ r. ⌜ r ≡ lookedAt q w ⌝ }
+{
+    let so_far = q.looked;
+    let stand = both(so_far.stand, record_stands(w, q.cells));
+    let before = so_far.found;
+    let found = earlier_of(before, shown_by(w, q.cell, q.stamp));
+    let newest = newer_of(so_far.newest, w, q.cell);
+    let looked = Looked {
         stand,
         found,
         newest,
+    };
+    Query {
+        cells: q.cells,
+        cell: q.cell,
+        stamp: q.stamp,
+        looked,
     }
 }
 
-fn put(s: &mut [u32], i: usize, x: u32)
-    ensures { λ r. ⌜ now (s .exit) ≡ set (now (s .entry)) i x ⌝ }
+// A search of the first n records.
+pub fn search(ws: &[Write], n: usize, from: Query) -> Query
+    ensures { λ r. ⌜ r ≡ searched from (take n (now (ws .entry))) ⌝ }
 {
-    if i < s.len() {
-        s[i] = x;
+    let end = less(n, ws.len());
+    let mut q = from;
+    let mut i: usize = 0;
+    while i < end {
+        q = look_at(q, ws[i]);
+        i = i + 1;
     }
+    q
 }
 
-// The record at `at` becomes the write that the access makes, if it makes one.
-pub fn store(cells: &mut [u32], stamps: &mut [u32], values: &mut [u32], at: usize, access: Access)
-    ensures { λ r. ⌜ now (cells .exit) ≡ inCells access at (now (cells .entry)) ⌝ }
-    ensures { λ r. ⌜ now (stamps .exit) ≡ inStamps access at (now (stamps .entry)) ⌝ }
-    ensures { λ r. ⌜ now (values .exit) ≡ inValues access at (now (values .entry)) ⌝ }
+// The same of a list that is held by value.
+pub fn search_kept(ws: [Write; 1024], n: usize, from: Query) -> Query
+    ensures { λ r. ⌜ r ≡ searched from (take n ws) ⌝ }
+{
+    search(&ws, n, from)
+}
+
+// Past the last of the records lent, where nothing is stored.
+fn no_fill(lent: usize) -> Fill
+    ensures { λ r. ⌜ r ≡ fill lent noWrite ⌝ }
+{
+    let write = Write {
+        cell: 0,
+        stamp: 0,
+        value: 0,
+    };
+    Fill { at: lent, write }
+}
+
+// The record after the held ones, if the access writes one.
+pub fn fill_of(access: Access, held: usize, lent: usize) -> Fill
+    ensures { λ r. ⌜ r ≡ fillOf access held lent ⌝ }
 {
     match access {
-        Access::NoAccess => {}
-        Access::Reads { cell: _, stamp: _ } => {}
+        Access::NoAccess => no_fill(lent),
+        Access::Reads { cell: _, stamp: _ } => no_fill(lent),
         Access::Writes { cell, stamp, value } => {
-            put(cells, at, cell);
-            put(stamps, at, stamp);
-            put(values, at, value);
+            let write = Write { cell, stamp, value };
+            Fill { at: held, write }
         }
+    }
+}
+
+// The record at `at` is replaced, if there is one.
+pub fn store(ws: &mut [Write], at: usize, w: Write)
+    ensures { λ _. ⌜ now (ws .exit) ≡ set (now (ws .entry)) at w ⌝ }
+{
+    if at < ws.len() {
+        ws[at] = w;
     }
 }

@@ -1,0 +1,99 @@
+-- What a step asks, what the search finds and what is decided come to the step, and so for what the queue holds. Assumes nothing.
+use mathlib.Core.Path.{_≡_, refl, ap, _∙_}
+use mathlib.Core.Bool.{Bool, true, false}
+use mathlib.Core.List.{List}
+use Prim.Native.Nat.{ℕ, _-_}
+use lib.Dec.{eqb}
+use lib.ListN.{length, set, take}
+use Rattle.asking.specs.Ask.{askBy, askedIf, askOf, rankAskOf}
+use Rattle.asking.specs.declared.Ask.{Ask}
+use Rattle.decision.specs.Decision.{standsBy, verdictOf, contentBy}
+use Rattle.decision.specs.declared.Verdict.{Verdict}
+use Rattle.laws.specs.Tests.{_and_}
+use Rattle.rank.specs.Rank.{fullStatus}
+use Rattle.refusal.specs.Refusal.{refusalBy}
+use Rattle.rules.specs.Access.{slotCell, cellAsked, stampAsked, foundBy, lookedBy}
+use Rattle.rules.specs.Calls.{statusName}
+use Rattle.rules.specs.Step.{outcome, decidedBy, asked, refusalOf, decidedOf, stepOf, contentIf, contentOf}
+use Rattle.rules.specs.declared.Decided.{Decided}
+use Rattle.standing.proofs.Bounds.{sizes}
+use Rattle.standing.proofs.Found.{stands-found}
+use Rattle.standing.specs.Stands.{sizesStand, stands}
+use Rattle.state.specs.State.{cellsOf, atomicAt, firstOf}
+use Rattle.state.specs.declared.Machine.{Machine}
+use Rattle.step.specs.declared.Answer.{Answer}
+use Rattle.step.specs.declared.Step.{Step}
+use Rattle.writes.proofs.Searched.{searched-is, fill-is}
+use Rattle.writes.specs.History.{searchOf}
+use Rattle.writes.specs.Records.{recorded}
+use Rattle.writes.specs.Searched.{soughtOf, searched}
+use Rattle.writes.specs.declared.Access.{Access}
+use Rattle.writes.specs.declared.Access.the-variants.{Reads}
+use Rattle.writes.specs.declared.Found.{Found}
+use Rattle.writes.specs.declared.Looked.{Looked}
+use Rattle.writes.specs.declared.Query.{Query}
+use Rattle.writes.specs.declared.Write.{Write}
+
+-- what the search finds for an access
+abbrev foundFor : Machine → List Write → Access → Query
+foundFor m ws a = searched (soughtOf (cellsOf m) (firstOf m (cellAsked a - 1)) (cellAsked a) (stampAsked a)) (take (m .held) ws)
+
+module _ (m : Machine) (ws : List Write) where
+  stands-for : (a : Access) → standsBy m (length ws) (foundFor m ws a) ≡ stands m ws
+  stands-for a = stands-found m ws (firstOf m (cellAsked a - 1)) (cellAsked a) (stampAsked a)
+
+  looked-for : (a : Access) → sizesStand m (length ws) ≡ true → foundFor m ws a .looked ≡ lookedBy m ws a
+  unfolding lookedBy
+  looked-for a e =
+      searched-is (cellsOf m) (firstOf m (cellAsked a - 1)) ws (cellAsked a) (stampAsked a) (m .held) (sizes m (length ws) e .room)
+
+  module _ (s : Step) where
+    abbrev by : Access → Bool → Found → Decided
+    by a b f = decidedBy (refusalBy b m (length ws) s a f) m s a f
+
+    abbrev decided : Access → Decided
+    decided a = by a (standsBy m (length ws) (foundFor m ws a)) (foundFor m ws a .looked .found)
+
+    decided-is : (z : Bool) → sizesStand m (length ws) ≡ z → decided (askedIf z (asked m s)) ≡ decidedOf m ws s
+    unfolding decidedOf refusalOf foundBy lookedBy searchOf refusalBy stands _and_
+    decided-is true e =
+        ap (λ (b : Bool). by (asked m s) b (foundFor m ws (asked m s) .looked .found)) (stands-for (asked m s))
+        ∙ ap (λ (l : Looked). by (asked m s) (stands m ws) (l .found)) (looked-for (asked m s) e)
+    decided-is false e = rw e
+
+    abbrev ask : Ask
+    ask = askOf m (length ws) s
+
+    abbrev verdict : Verdict
+    verdict = verdictOf m (length ws) s (ask .access) (searched (ask .query) (take (ask .held) ws))
+
+    -- the record stored and the answer given are those of the step
+    pub settled : outcome (verdict .done) (set ws (verdict .fill .at) (verdict .fill .write)) ≡ stepOf m ws s
+    unfolding askOf askBy verdictOf stepOf
+    settled =
+        let d = decided (askedIf (sizesStand m (length ws)) (asked m s)) in
+        ap (outcome (d .done)) (fill-is (d .wrote) (m .held) ws)
+        ∙ ap (λ (u : Decided). outcome (u .done) (recorded (u .wrote) (m .held) ws)) (decided-is (sizesStand m (length ws)) refl)
+
+  module _ (k : ℕ) where
+    abbrev shown-by : Bool → ℕ → Answer
+    shown-by b v = contentIf b (eqb (atomicAt m (statusName m k) .value) (fullStatus k)) v
+
+    abbrev shown : Access → Answer
+    shown a = shown-by (standsBy m (length ws) (foundFor m ws a)) (foundFor m ws a .looked .newest .value)
+
+    shown-is : (z : Bool) → sizesStand m (length ws) ≡ z → shown (askedIf z (Reads (slotCell (m .shape) k) 0)) ≡ contentOf m ws k
+    unfolding contentOf lookedBy searchOf stands _and_
+    shown-is true e =
+        let a = Reads (slotCell (m .shape) k) 0 in
+        ap (λ (b : Bool). shown-by b (foundFor m ws a .looked .newest .value)) (stands-for a)
+        ∙ ap (λ (l : Looked). shown-by (stands m ws) (l .newest .value)) (looked-for a e)
+    shown-is false e = rw e
+
+    abbrev rank-ask : Ask
+    rank-ask = rankAskOf m (length ws) k
+
+    -- what the queue holds at a rank
+    pub content-settled : contentBy m (length ws) k (searched (rank-ask .query) (take (rank-ask .held) ws)) ≡ contentOf m ws k
+    unfolding rankAskOf askBy contentBy
+    content-settled = shown-is (sizesStand m (length ws)) refl
