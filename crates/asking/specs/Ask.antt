@@ -2,6 +2,7 @@
 use mathlib.Core.Bool.{Bool, true, false}
 use Prim.Native.Nat.{ℕ, _-_}
 use Rattle.asking.specs.declared.Ask.{Ask}
+use Rattle.asking.specs.declared.Asked.{Asked}
 use Rattle.rules.specs.Access.{slotCell, cellAsked, stampAsked}
 use Rattle.rules.specs.Step.{asked}
 use Rattle.standing.specs.Stands.{sizesStand}
@@ -11,6 +12,10 @@ use Rattle.step.specs.declared.Step.{Step}
 use Rattle.writes.specs.Searched.{soughtOf}
 use Rattle.writes.specs.declared.Access.{Access}
 use Rattle.writes.specs.declared.Access.the-variants.{NoAccess, Reads}
+
+-- a step of a state of which nothing is known
+abbrev pub anew : Step → Asked
+anew s = record { step = s; known = false }
 
 -- the held records are searched for the cell and the stamp of an access
 unfoldable pub askBy : Machine → Access → Ask

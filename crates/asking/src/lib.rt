@@ -13,6 +13,12 @@ use step::Verb;
 use writes::Access;
 use writes::Query;
 
+// A step, and whether the state and the list are known to stand, as they are after a step that was taken.
+pub struct Asked {
+    pub step: Step,
+    pub known: bool,
+}
+
 // What is asked of the list: the plain access to be made, how many records are searched, and for what.
 pub struct Ask {
     pub access: Access,
@@ -131,11 +137,12 @@ fn ask_by(m: Machine, access: Access) -> Ask
 }
 
 // What a step asks of a list of so many; a state whose sizes do not stand asks of no cell.
-pub fn ask_of(m: Machine, lent: usize, step: Step) -> Ask
-    ensures { λ r. ⌜ r ≡ askOf m lent step ⌝ }
+pub fn ask_of(m: Machine, lent: usize, asked: Asked) -> Ask
+    ensures { λ r. ⌜ r ≡ askOf m lent (asked .step) ⌝ }
 {
     let sized = standing::sizes_stand(m, lent);
     if sized {
+        let step = asked.step;
         return ask_by(m, asked_of(m, step));
     }
     ask_by(m, Access::NoAccess)

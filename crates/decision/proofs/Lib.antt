@@ -1,3 +1,4 @@
 pub mod Sizes
+pub mod Known
 pub mod Settled
 pub mod Determined

@@ -7,14 +7,15 @@ use lib.Dec.{eqb}
 use lib.ListN.{length, set, take}
 use Rattle.asking.specs.Ask.{askBy, askedIf, askOf, rankAskOf}
 use Rattle.asking.specs.declared.Ask.{Ask}
-use Rattle.decision.specs.Decision.{standsBy, verdictOf, contentBy}
+use Rattle.decision.specs.Decision.{standsBy, standsIf, verdictOf, contentBy}
+use Rattle.decision.specs.Known.{judgedBy, decidedWith, leftBy, stepBy}
 use Rattle.decision.specs.declared.Verdict.{Verdict}
 use Rattle.laws.specs.Tests.{_and_}
 use Rattle.rank.specs.Rank.{fullStatus}
 use Rattle.refusal.specs.Refusal.{refusalBy}
 use Rattle.rules.specs.Access.{slotCell, cellAsked, stampAsked, foundBy, lookedBy}
 use Rattle.rules.specs.Calls.{statusName}
-use Rattle.rules.specs.Step.{outcome, decidedBy, asked, refusalOf, decidedOf, stepOf, contentIf, contentOf}
+use Rattle.rules.specs.Step.{outcome, decidedBy, asked, contentIf, contentOf}
 use Rattle.rules.specs.declared.Decided.{Decided}
 use Rattle.standing.proofs.Bounds.{sizes}
 use Rattle.standing.proofs.Found.{stands-found}
@@ -25,10 +26,9 @@ use Rattle.step.specs.declared.Answer.{Answer}
 use Rattle.step.specs.declared.Step.{Step}
 use Rattle.writes.proofs.Searched.{searched-is, fill-is}
 use Rattle.writes.specs.History.{searchOf}
-use Rattle.writes.specs.Records.{recorded}
 use Rattle.writes.specs.Searched.{soughtOf, searched}
 use Rattle.writes.specs.declared.Access.{Access}
-use Rattle.writes.specs.declared.Access.the-variants.{Reads}
+use Rattle.writes.specs.declared.Access.the-variants.{NoAccess, Reads}
 use Rattle.writes.specs.declared.Found.{Found}
 use Rattle.writes.specs.declared.Looked.{Looked}
 use Rattle.writes.specs.declared.Query.{Query}
@@ -47,33 +47,43 @@ module _ (m : Machine) (ws : List Write) where
   looked-for a e =
       searched-is (cellsOf m) (firstOf m (cellAsked a - 1)) ws (cellAsked a) (stampAsked a) (m .held) (sizes m (length ws) e .room)
 
-  module _ (s : Step) where
+  module _ (known : Bool) (s : Step) where
     abbrev by : Access → Bool → Found → Decided
     by a b f = decidedBy (refusalBy b m (length ws) s a f) m s a f
 
     abbrev decided : Access → Decided
-    decided a = by a (standsBy m (length ws) (foundFor m ws a)) (foundFor m ws a .looked .found)
+    decided a = by a (standsIf known m (length ws) s (foundFor m ws a)) (foundFor m ws a .looked .found)
 
-    decided-is : (z : Bool) → sizesStand m (length ws) ≡ z → decided (askedIf z (asked m s)) ≡ decidedOf m ws s
-    unfolding decidedOf refusalOf foundBy lookedBy searchOf refusalBy stands _and_
+    judged-for : (z : Bool) (a : Access) → standsIf z m (length ws) s (foundFor m ws a) ≡ judgedBy z m ws s
+    judged-for true a = refl
+    judged-for false a = stands-for a
+
+    -- a state whose sizes do not stand is refused, whatever is known
+    unsized : (z : Bool) → sizesStand m (length ws) ≡ false → judgedBy z m ws s ≡ false
+    unfolding stands _and_
+    unsized true e = rw e
+    unsized false e = rw e
+
+    decided-is : (z : Bool) → sizesStand m (length ws) ≡ z → decided (askedIf z (asked m s)) ≡ decidedWith (judgedBy known m ws s) m ws s
+    unfolding foundBy lookedBy searchOf refusalBy
     decided-is true e =
-        ap (λ (b : Bool). by (asked m s) b (foundFor m ws (asked m s) .looked .found)) (stands-for (asked m s))
-        ∙ ap (λ (l : Looked). by (asked m s) (stands m ws) (l .found)) (looked-for (asked m s) e)
-    decided-is false e = rw e
+        ap (λ (b : Bool). by (asked m s) b (foundFor m ws (asked m s) .looked .found)) (judged-for known (asked m s))
+        ∙ ap (λ (l : Looked). by (asked m s) (judgedBy known m ws s) (l .found)) (looked-for (asked m s) e)
+    decided-is false e = rw (judged-for known NoAccess, unsized known e)
 
     abbrev ask : Ask
     ask = askOf m (length ws) s
 
     abbrev verdict : Verdict
-    verdict = verdictOf m (length ws) s (ask .access) (searched (ask .query) (take (ask .held) ws))
+    verdict = verdictOf known m (length ws) s (ask .access) (searched (ask .query) (take (ask .held) ws))
 
     -- the record stored and the answer given are those of the step
-    pub settled : outcome (verdict .done) (set ws (verdict .fill .at) (verdict .fill .write)) ≡ stepOf m ws s
-    unfolding askOf askBy verdictOf stepOf
+    pub settled : outcome (verdict .done) (set ws (verdict .fill .at) (verdict .fill .write)) ≡ stepBy known m ws s
+    unfolding askOf askBy verdictOf stepBy
     settled =
         let d = decided (askedIf (sizesStand m (length ws)) (asked m s)) in
         ap (outcome (d .done)) (fill-is (d .wrote) (m .held) ws)
-        ∙ ap (λ (u : Decided). outcome (u .done) (recorded (u .wrote) (m .held) ws)) (decided-is (sizesStand m (length ws)) refl)
+        ∙ ap (λ (u : Decided). leftBy u m ws) (decided-is (sizesStand m (length ws)) refl)
 
   module _ (k : ℕ) where
     abbrev shown-by : Bool → ℕ → Answer

@@ -3,15 +3,17 @@ ghost use mathlib.Core.Path.{_≡_};
 ghost use mathlib.Core.Bool.{true};
 ghost use Prim.Native.Nat.{_≤_, _-_};
 ghost use Rattle.decision.specs.Bounds.{Sized};
-ghost use Rattle.decision.specs.Decision.{verdictOf, contentBy};
+ghost use Rattle.decision.specs.Decision.{rankFits, standsIf, verdictOf, contentBy};
 ghost use Rattle.refusal.specs.Refusal.{refusalBy};
 ghost use Rattle.rules.specs.Access.{accessed};
 ghost use Rattle.rules.specs.Step.{valueOf, takenBy, decidedBy, contentIf};
-ghost use Rattle.standing.specs.Stands.{rankOf, partsStand};
+ghost use Rattle.standing.specs.Stands.{rankOf};
 ghost use Rattle.state.specs.State.{place};
 use asking::Ask;
+use asking::Asked;
 use calls::act;
 use calls::has_status;
+use laws::both;
 use rules::Decided;
 use rules::Done;
 use state::Machine;
@@ -77,7 +79,7 @@ fn take(m: Machine, step: Step, a: Access, f: Found) -> Done
 }
 
 fn decide(m: Machine, stand: bool, lent: usize, step: Step, a: Access, f: Found) -> Decided
-    requires { ⌜ (stand ≡ true → Sized m × (partsStand m ≡ true)) ⌝ }
+    requires { ⌜ (stand ≡ true → Sized m × (rankFits m step ≡ true)) ⌝ }
     ensures { λ r. ⌜ r ≡ decidedBy (refusalBy stand m lent step a f) m step a f ⌝ }
 {
     let number = refusal::refusal_by(m, stand, lent, step, a, f);
@@ -95,14 +97,37 @@ fn decide(m: Machine, stand: bool, lent: usize, step: Step, a: Access, f: Found)
     }
 }
 
+// The rank that the thread's place notes is one that the step can reckon with.
+fn rank_fits(m: Machine, step: Step) -> bool
+    ensures { λ r. ⌜ r ≡ rankFits m step ⌝ }
+{
+    let shape = m.shape;
+    if shape.threads < step.thread {
+        return true;
+    }
+    standing::rank_of(state::place_of(m, index(step.thread))) <= 4096
+}
+
+// Whether the state and the list stand; of those known to stand only what the step reckons with is judged.
+fn stands_if(m: Machine, lent: usize, asked: Asked, q: Query) -> bool
+    ensures { λ r. ⌜ r ≡ standsIf (asked .known) m lent (asked .step) q ⌝ }
+{
+    if asked.known {
+        let step = asked.step;
+        return both(standing::sizes_stand(m, lent), rank_fits(m, step));
+    }
+    standing::stands_by(m, lent, q)
+}
+
 // What is decided of a step, once the search that was asked for has found q.
-pub fn verdict_of(m: Machine, lent: usize, step: Step, ask: Ask, q: Query) -> Verdict
-    ensures { λ r. ⌜ r ≡ verdictOf m lent step (ask .access) q ⌝ }
+pub fn verdict_of(m: Machine, lent: usize, asked: Asked, ask: Ask, q: Query) -> Verdict
+    ensures { λ r. ⌜ r ≡ verdictOf (asked .known) m lent (asked .step) (ask .access) q ⌝ }
 {
     let a = ask.access;
+    let step = asked.step;
     let looked = q.looked;
     let found = looked.found;
-    let decided = decide(m, standing::stands_by(m, lent, q), lent, step, a, found);
+    let decided = decide(m, stands_if(m, lent, asked, q), lent, step, a, found);
     let wrote = decided.wrote;
     let fill = writes::fill_of(wrote, state::held_of(m), lent);
     let done = decided.done;

@@ -3,6 +3,7 @@ ghost use mathlib.Core.Path.{_≡_};
 ghost use mathlib.Core.List.{_++_};
 ghost use Prim.Native.Nat.{_+_, _*_, _<_, _≤_};
 ghost use lib.ListN.{length, replicate};
+ghost use Rattle.asking.specs.Ask.{anew};
 ghost use Rattle.laws.specs.Lists.{filled};
 ghost use Rattle.number.specs.Buffer.{placed, Wrote};
 ghost use Rattle.standing.specs.Stands.{nameIn};
@@ -12,6 +13,7 @@ ghost use Rattle.view.specs.View.{zeroView};
 ghost use Rattle.outside.specs.Image.{placeWords, placeOf, inTurn, atomicWords, threadWords, heading, wordsOf, word, viewFrom, atomicFrom, placeFrom, machineOf};
 ghost use Rattle.outside.specs.Asked.{verbOf, stepAsked, answerWords};
 ghost use Rattle.outside.specs.Call.{lent, called};
+use asking::Asked;
 use laws::number_at;
 use rules::Done;
 use standing::Family;
@@ -338,8 +340,8 @@ fn verb_of(n: usize, a: u32, b: u32, c: u32) -> Verb
     }
 }
 
-fn step_asked(s: &[u32]) -> Step
-    ensures { λ r. ⌜ r ≡ stepAsked (now (s .entry)) ⌝ }
+fn step_asked(s: &[u32]) -> Asked
+    ensures { λ r. ⌜ r ≡ anew (stepAsked (now (s .entry))) ⌝ }
 {
     let thread = number_at(s, 0);
     let n = number_at(s, 1);
@@ -347,7 +349,8 @@ fn step_asked(s: &[u32]) -> Step
     let b = number_at(s, 3);
     let c = number_at(s, 4);
     let verb = verb_of(n as usize, a, b, c);
-    Step { thread, verb }
+    let step = Step { thread, verb };
+    Asked { step, known: false }
 }
 
 fn answer_words(a: Answer) -> [u32; 2]

@@ -1,22 +1,26 @@
 -- A run, one step at a time: what is left of it comes to the whole. Assumes nothing.
 use Prim.Native.Nat.{_+_, _-_, _<_, _≤_, _^_, suc, zero, ℕ}
 use lib.ListN.{length, replicate}
-use mathlib.Core.Bool.{Bool, true, false}
+use mathlib.Core.Bool.{Bool, true, false, false≢true}
 use mathlib.Core.List.{List, [], _∷_, map}
 use mathlib.Core.Path.{_∙_, _≡_, ap, refl, sym}
 use native.Mathlib.Omega.{arith}
 use Rattle.form.specs.declared.Due.the-variants.{StepDue}
 use Rattle.form.specs.declared.Line.{Line}
-use Rattle.rules.proofs.Refused.{refused-keeps}
+use Rattle.rules.proofs.Refused.{numbered, refused-keeps}
 use Rattle.line.specs.Row.{readLine}
 use Rattle.line.specs.declared.LineRead.{LineRead}
 use Rattle.line.specs.declared.LineRead.the-variants.{Fault, Took}
-use Rattle.rules.specs.Step.{Outcome, outcome, stepOf}
+use Rattle.rules.specs.Step.{Outcome, outcome, stepOf, refusalOf}
 use Rattle.rules.specs.declared.Done.{Done}
 use Rattle.number.specs.declared.Written.{Written}
 use Rattle.number.specs.declared.Written.the-variants.{Next}
 use Rattle.opening.specs.Opening.{openedOf}
 use Rattle.printed.specs.Printed.{Page, page, putLines}
+use Rattle.decision.proofs.Known.{as-known}
+use Rattle.decision.specs.Known.{stepBy}
+use Rattle.refusal.proofs.Passed.{passed}
+use Rattle.rules.proofs.Kept.{standing-kept}
 use Rattle.run.proofs.Lines.{from-line}
 use Rattle.run.proofs.Page.{put-append}
 use Rattle.run.specs.Buffer.{Ends}
@@ -28,6 +32,7 @@ use Rattle.run.specs.declared.Going.{Going}
 use Rattle.texts.specs.Schedule.{also, linesFrom, scheduleOf, stepIn, stepsAt, weightsAt}
 use Rattle.schedule.specs.declared.Section.{Section}
 use Rattle.schedule.specs.declared.Sections.{Sections}
+use Rattle.standing.specs.Stands.{stands}
 use Rattle.state.specs.declared.Machine.{Machine}
 use Rattle.step.specs.Answer.{numberOf}
 use Rattle.step.specs.declared.Step.{Step}
@@ -77,6 +82,7 @@ pub record Comes (y : Run) (b : Page) (n : ℕ) (x : Run) (before : List ℕ) : 
 pub record Way (text : List ℕ) (g : Going) (ws : List Write) (out : List ℕ) (x : Run) (before : List ℕ) : Type 0 where
   pub comes : Comes (leftOf text g ws) (page (g .upto) out) (g .taken) x before
   pub few : g .taken + length (asks text (g .ahead)) < 2 ^ 32
+  pub stood : g .ahead .on ≡ true → g .ahead .asked .known ≡ true → stands (g .machine) ws ≡ true
 
 told : {t : Told} {y x : Run} {b : Page} {n : ℕ} {before : List ℕ} → Comes (tells t y) b n x before
     → Comes y (putLines b (toldLine t ∷ [])) (n + 1) x before
@@ -105,11 +111,11 @@ stop-after zero x y h = absurd (omega arith)
 stop-after (suc k) x y h = refl
 
 module _ (text : List ℕ) (g : Going) (ws : List Write) {d : Done} {ws' : List Write} (e : g .ahead .on ≡ true)
-    (o : outcome d ws' ≡ stepOf (g .machine) ws (g .ahead .step)) where
+    (o : outcome d ws' ≡ stepOf (g .machine) ws (g .ahead .asked .step)) where
   -- before a step that is taken: its answer, and the steps after it
   left-taken : numberOf (d .answer) ≡ 0
       → leftOf text g ws
-      ≡ tells (record { thread = g .ahead .step .thread; answer = d .answer }) (ran (d .machine) ws' (stepsAt text (g .ahead .rest)))
+      ≡ tells (record { thread = g .ahead .asked .step .thread; answer = d .answer }) (ran (d .machine) ws' (stepsAt text (g .ahead .rest)))
   unfolding ran
   left-taken z = rw (e, ← o, z)
 
@@ -121,7 +127,7 @@ module _ (text : List ℕ) (g : Going) (ws : List Write) {d : Done} {ws' : List 
   -- which gives back the same state and list
   same : 0 < numberOf (d .answer) → (d .machine ≡ g .machine) × (ws' ≡ ws)
   same z =
-      let k = refused-keeps (g .machine) ws (g .ahead .step) (rw (← o) z) in
+      let k = refused-keeps (g .machine) ws (g .ahead .asked .step) (rw (← o) z) in
       (ap (λ (u : Outcome). u .done .machine) o ∙ k .0, ap (λ (u : Outcome). u .writes) o ∙ k .1)
 
 module _ {text : List ℕ} {x : Run} {before : List ℕ} where
@@ -139,6 +145,7 @@ module _ {text : List ℕ} {x : Run} {before : List ℕ} where
               writes = ap (λ (r : Run). r .writes) all;
             };
         few = rw (o .taken, o .ahead) (omega (arith, few-steps text (s .count) (s .at)));
+        stood = λ _ k. absurd (false≢true (sym (o .known) ∙ k));
       }
 
   -- a step that is still ahead can be counted
@@ -146,7 +153,19 @@ module _ {text : List ℕ} {x : Run} {before : List ℕ} where
   way-counts {g} w e = let f = w .few in omega (arith, rw e at f)
 
   module _ {g r : Going} {d : Done} {ws ws' : List Write} {out out' : List ℕ} (w : Way text g ws out x before) (e : g .ahead .on ≡ true)
-      (o : outcome d ws' ≡ stepOf (g .machine) ws (g .ahead .step)) (h : Goes text g d out r out') where
+      (b : outcome d ws' ≡ stepBy (g .ahead .asked .known) (g .machine) ws (g .ahead .asked .step)) (h : Goes text g d out r out') where
+    o : outcome d ws' ≡ stepOf (g .machine) ws (g .ahead .asked .step)
+    o = b ∙ as-known (g .machine) ws (g .ahead .asked .step) (g .ahead .asked .known) (w .stood e)
+
+    -- a state from which a step was taken stands, and so does the one after
+    stood-after : numberOf (d .answer) ≡ 0 → stands (r .machine) ws' ≡ true
+    unfolding refusalOf
+    stood-after z =
+        let s = g .ahead .asked .step in
+        let p = passed _ _ _ _ _ _ (sym (numbered (g .machine) ws s) ∙ ap (λ (u : Outcome). numberOf (u .done .answer)) (sym o) ∙ z) in
+        ap (λ (m : Machine). stands m ws') (h .machine) ∙ ap (λ (u : Outcome). stands (u .done .machine) (u .writes)) o
+        ∙ standing-kept (g .machine) ws s (p .stands)
+
     -- the step that was asked is taken
     way-taken : numberOf (d .answer) ≡ 0 → Way text r ws' out' x before × (length (asks text (r .ahead)) < length (asks text (g .ahead)))
     way-taken z =
@@ -156,6 +175,7 @@ module _ {text : List ℕ} {x : Run} {before : List ℕ} where
           record {
             comes = rw (is, q .1, q .2) (told (rw (left-taken text g ws e o z) at (w .comes)));
             few = rw (q .0, q .1) (omega (arith, rw e at (w .few)));
+            stood = λ _ _. stood-after z;
           },
           rw (q .0, e) (omega arith),
         )
@@ -166,7 +186,11 @@ module _ {text : List ℕ} {x : Run} {before : List ℕ} where
         let q = h .stops z in
         let is : leftOf text r ws' ≡ leftOf text g ws
         = left-none text r ws' (q .0) ∙ (λ i. stops ((h .machine ∙ same text g ws e o z .0) i) (same text g ws e o z .1 i) (h .refused i)) ∙ sym (left-refused text g ws e o z) in (
-          record { comes = rw (is, q .1, q .2) (w .comes); few = rw (q .0, q .1) (omega (arith, w .few)) },
+          record {
+            comes = rw (is, q .1, q .2) (w .comes);
+            few = rw (q .0, q .1) (omega (arith, w .few));
+            stood = λ on _. absurd (false≢true (sym (q .0) ∙ on));
+          },
           rw (q .0, e) (omega arith),
         )
 

@@ -22,12 +22,13 @@ ifOn false ss = []
 
 -- the steps that are asked from here on: the next, and those of the lines after it
 abbrev pub asks : List ℕ → Ahead → List Step
-asks text a = ifOn (a .on) (a .step ∷ stepsAt text (a .rest))
+asks text a = ifOn (a .on) (a .asked .step ∷ stepsAt text (a .rest))
 
 -- before the first step
 pub record Begins (text : List ℕ) (s : Section) (m : Machine) (g : Going) : Type 0 where
   pub machine : g .machine ≡ m
   pub ahead : asks text (g .ahead) ≡ stepsAt text s
+  pub known : g .ahead .asked .known ≡ false
   pub taken : g .taken ≡ 0
   pub refused : g .refused ≡ 0
   pub upto : g .upto ≡ Next 0
@@ -42,7 +43,7 @@ pub record Goes (text : List ℕ) (g : Going) (d : Done) (before : List ℕ) (r 
       numberOf (d .answer) ≡ 0
       → (asks text (r .ahead) ≡ stepsAt text (g .ahead .rest))
       × (r .taken ≡ g .taken + 1)
-      × (page (r .upto) after ≡ putLines (page (g .upto) before) (answerLine (g .ahead .step .thread) (d .answer) ∷ []))
+      × (page (r .upto) after ≡ putLines (page (g .upto) before) (answerLine (g .ahead .asked .step .thread) (d .answer) ∷ []))
 
 abbrev pub endedOf : Going → List Write → Ended
 endedOf g ws = record { machine = g .machine; taken = g .taken; refused = g .refused; upto = g .upto; writes = ws }

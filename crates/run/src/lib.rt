@@ -1,4 +1,5 @@
 // A schedule's text run until its first refused step, and the report of it.
+use asking::Asked;
 use fault::Refusal;
 use form::Due;
 use form::Line;
@@ -42,10 +43,10 @@ pub struct Ended {
     pub writes: [Write; 1024],
 }
 
-// What the text of a run asks next: whether a step, the step, and the lines after it.
+// What the text of a run asks next: whether a step, the step, and the lines after it. Once a step was taken, the state is known to stand.
 pub struct Ahead {
     pub on: bool,
-    pub step: Step,
+    pub asked: Asked,
     pub rest: Section,
 }
 
@@ -156,49 +157,51 @@ fn open_text(text: &[u8], s: Sections) -> Machine
 }
 
 // Nothing more is asked.
-fn nothing_ahead(rest: Section) -> Ahead
-    ensures { λ r. ⌜ r .on ≡ false ⌝ }
+fn nothing_ahead(rest: Section, known: bool) -> Ahead
+    ensures { λ r. ⌜ (r .on ≡ false) × (r .asked .known ≡ known) ⌝ }
 {
     let step = Step {
         thread: 0,
         verb: Verb::Go,
     };
+    let asked = Asked { step, known };
     Ahead {
         on: false,
-        step,
+        asked,
         rest,
     }
 }
 
 // The next line of a section, where one is left and reads.
-fn next_step(text: &[u8], s: Section) -> Ahead
-    ensures { λ r. ⌜ asks (now (text .entry)) r ≡ stepsAt (now (text .entry)) s ⌝ }
+fn next_step(text: &[u8], s: Section, known: bool) -> Ahead
+    ensures { λ r. ⌜ (asks (now (text .entry)) r ≡ stepsAt (now (text .entry)) s) × (r .asked .known ≡ known) ⌝ }
 {
     let left = s.count;
     if left == 0 {
-        return nothing_ahead(s);
+        return nothing_ahead(s, known);
     }
     match reader::line_of(text, s.at, Due::StepDue) {
         LineRead::Took(x, p) => {
             let step = step_in(x);
+            let asked = Asked { step, known };
             let rest = Section {
                 count: left - 1,
                 at: p,
             };
             Ahead {
                 on: true,
-                step,
+                asked,
                 rest,
             }
         }
-        LineRead::Fault(_) => nothing_ahead(s),
+        LineRead::Fault(_) => nothing_ahead(s, known),
     }
 }
 
 fn begin(text: &[u8], s: Section, first: Machine) -> Going
     ensures { λ r. ⌜ Begins (now (text .entry)) s first r ⌝ }
 {
-    let ahead = next_step(text, s);
+    let ahead = next_step(text, s, false);
     let upto = Written::Next(0);
     Going {
         machine: first,
@@ -216,12 +219,13 @@ fn go_on(text: &[u8], out: &mut [u8], g: Going, done: Done) -> Going
 {
     let machine = done.machine;
     let answer = done.answer;
-    let asked = g.ahead;
+    let before = g.ahead;
     let upto = g.upto;
+    let asked = before.asked;
     let step = asked.step;
     let refused = refusal_in(answer);
     if refused != 0 {
-        let ahead = nothing_ahead(asked.rest);
+        let ahead = nothing_ahead(before.rest, false);
         return Going {
             machine,
             ahead,
@@ -231,7 +235,7 @@ fn go_on(text: &[u8], out: &mut [u8], g: Going, done: Done) -> Going
         };
     }
     let next = printed::put_next(out, upto, printed::answer_line(step.thread, answer));
-    let ahead = next_step(text, asked.rest);
+    let ahead = next_step(text, before.rest, true);
     Going {
         machine,
         ahead,
@@ -273,7 +277,7 @@ fn run_steps(text: &[u8], s: Section, first: Machine, out: &mut [u8]) -> Ended
     let mut ws = no_writes();
     let mut g = begin(text, s, first);
     while g.ahead.on {
-        let done = machine::step(g.machine, &mut ws, g.ahead.step);
+        let done = machine::step(g.machine, &mut ws, g.ahead.asked);
         g = go_on(text, out, g, done);
     }
     finish(g, ws)

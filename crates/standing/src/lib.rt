@@ -46,7 +46,7 @@ pub fn sizes_stand(m: Machine, lent: usize) -> bool
 }
 
 // The rank that a place notes, and 0 where it notes none.
-fn rank_of(p: Place) -> u32
+pub fn rank_of(p: Place) -> u32
     ensures { λ r. ⌜ r ≡ rankOf p ⌝ }
 {
     match p {

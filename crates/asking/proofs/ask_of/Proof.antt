@@ -6,15 +6,15 @@ use Rattle.asking.proofs.ask_of.Statement.{statement}
 use Rattle.asking.proofs.ask_of.Tie as tie
 
 asked-of-requires : tie.Need-asked-of-requires
-asked-of-requires c κs = small _ _ (sym (c .before .sizes-stand .ensures) ∙ c .if1 .taken)
+asked-of-requires c κs = small _ _ (sym (c .before .before .sizes-stand .ensures) ∙ c .before .if1 .taken)
 
 returns : tie.Need-returns
 unfolding askOf
 returns c = rw (
   c .ask-by .ensures,
   c .before .asked-of .ensures,
-  ← c .before .before .before .sizes-stand .ensures,
-  c .before .before .if1 .taken,
+  ← c .before .before .before .before .sizes-stand .ensures,
+  c .before .before .before .if1 .taken,
 )
 
 returns-2 : tie.Need-returns-2

@@ -1,15 +1,14 @@
 use mathlib.Core.Path.{_≡_, refl}
-use Prim.Native.Nat.{ℕ, zero, suc, _-_}
-use native.Mathlib.Omega.{arith}
+use Prim.Native.Nat.{ℕ, zero, suc}
 use borrow.Author.Needs.{needs}
 use Rattle.refusal.proofs.Passed.{passed}
 use Rattle.refusal.specs.Refusal.{refusalBy}
 use Rattle.rules.specs.Step.{refusedBy, decidedBy}
-use Rattle.standing.proofs.Bounds.{noted}
 use Rattle.state.specs.declared.Machine.{Machine}
 use Rattle.step.specs.declared.Step.{Step}
 use Rattle.writes.specs.declared.Access.{Access}
 use Rattle.writes.specs.declared.Found.{Found}
+use Rattle.decision.proofs.Known.{fits-rank}
 use Rattle.decision.proofs.decide.Statement.{statement}
 use Rattle.decision.proofs.decide.Tie as tie
 
@@ -24,8 +23,7 @@ take-requires c κs =
     let e : refusalBy (a .stand) (a .m) (a .lent) (a .step) (a .a) (a .f) ≡ 0 = rw (← c .before .refusal-by .ensures) (c .if1 .taken) in
     let p = passed (a .stand) (a .m) (a .lent) (a .step) (a .a) (a .f) e in
     let z = c .before .before .pre (p .stands) in
-    let r = noted (a .m) (a .step .thread - 1) (z .1) (omega (arith, p .thread)) in
-    (z .0, omega (arith, z .0 .steps, r))
+    (z .0, fits-rank (a .m) (a .step) (p .thread .1) (z .1))
 
 returns : tie.Need-returns
 returns c = rw (c .take .ensures, ← c .before .before .refusal-by .ensures, c .before .if1 .taken)

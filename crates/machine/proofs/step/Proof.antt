@@ -44,11 +44,12 @@ use denote.Triple.Walked.{says, Stays, stay-none, gave-slice, walkOf, goes-none,
 use denote.Exit.{yes}
 use Rattle.asking.specs.Ask.{askOf}
 use Rattle.asking.specs.declared.Ask.{Ask}
+use Rattle.asking.specs.declared.Asked.{Asked}
 use Rattle.decision.specs.Decision.{verdictOf}
+use Rattle.decision.specs.Known.{stepBy}
 use Rattle.decision.specs.declared.Verdict.{Verdict}
-use Rattle.rules.specs.Step.{outcome, stepOf}
+use Rattle.rules.specs.Step.{outcome}
 use Rattle.state.specs.declared.Machine.{Machine}
-use Rattle.step.specs.declared.Step.{Step}
 use Rattle.writes.specs.Searched.{searched}
 use Rattle.writes.specs.declared.Query.{Query}
 use Rattle.writes.specs.declared.Write.{Write}
@@ -56,6 +57,8 @@ use Rattle.decision.proofs.Settled.{settled}
 use Rattle.writes.proofs.Calling.{calls-values}
 use Rattle.writes.proofs.Lent.{Search, Store, calls-search, calls-store, lent-at, query-vals}
 use Rattle.writes.proofs.Shared.{LentShared, lends-shared, shared-back}
+use Rattle.asking.proofs.Asked as P
+use Rattle.asking.proofs.Asked.Laws as P′
 use Rattle.asking.proofs.Ask as K
 use Rattle.asking.proofs.Ask.Laws as K′
 use Rattle.decision.proofs.Verdict as J
@@ -64,8 +67,6 @@ use Rattle.rules.proofs.Done as D
 use Rattle.rules.proofs.Done.Laws as D′
 use Rattle.state.proofs.Machine as S
 use Rattle.state.proofs.Machine.Laws as S′
-use Rattle.step.proofs.Step as P
-use Rattle.step.proofs.Step.Laws as P′
 use Rattle.writes.proofs.Fill as F
 use Rattle.writes.proofs.Fill.Laws as F′
 use Rattle.writes.proofs.Query as Q
@@ -97,7 +98,7 @@ stayed = (stay-none (λ _. S.the-row) yes, (gave-slice (0 ∷ []) tt (plain (λ 
 abbrev mval : Machine → Val
 mval = LL.val S.the-type S′.the-laws
 
-abbrev pval : Step → Val
+abbrev pval : Asked → Val
 pval = LL.val P.the-type P′.the-laws
 
 abbrev kval : Ask → Val
@@ -106,20 +107,20 @@ kval = LL.val K.the-type K′.the-laws
 abbrev vval : Verdict → Val
 vval = LL.val J.the-type J′.the-laws
 
-abbrev AsksFor : Machine → ℕ → Step → Ask → Type 0
-AsksFor m n s k = k ≡ askOf m n s
+abbrev AsksFor : Machine → ℕ → Asked → Ask → Type 0
+AsksFor m n s k = k ≡ askOf m n (s .step)
 
-abbrev Settles : Machine → ℕ → Step → Ask → Query → Verdict → Type 0
-Settles m n s k u v = v ≡ verdictOf m n s (k .access) u
+abbrev Settles : Machine → ℕ → Asked → Ask → Query → Verdict → Type 0
+Settles m n s k u v = v ≡ verdictOf (s .known) m n (s .step) (k .access) u
 
 -- what the four calls come to
-answered : (m : Machine) (ws us : List Write) (s : Step) (k : Ask) (u : Query) (v : Verdict) → AsksFor m (length ws) s k
+answered : (m : Machine) (ws us : List Write) (s : Asked) (k : Ask) (u : Query) (v : Verdict) → AsksFor m (length ws) s k
     → u ≡ searched (k .query) (take (k .held) ws) → Settles m (length ws) s k u v → us ≡ set ws (v .fill .at) (v .fill .write)
-    → outcome (v .done) us ≡ stepOf m ws s
-answered m ws us s k u v ek eu ev e = rw (e, ev, eu, ek) (settled m ws s)
+    → outcome (v .done) us ≡ stepBy (s .known) m ws (s .step)
+answered m ws us s k u v ek eu ev e = rw (e, ev, eu, ek) (settled m ws (s .known) (s .step))
 
 -- the two covered functions that are called
-module _ {M : Type 1} (𝓤 : URA M) (H : Heap 𝓤) (A : Atoms 𝓤) (mem : Memory → SProp 𝓤) (run : Routine → Fun 𝓤) (m : Machine) (n : ℕ) (s : Step) where
+module _ {M : Type 1} (𝓤 : URA M) (H : Heap 𝓤) (A : Atoms 𝓤) (mem : Memory → SProp 𝓤) (run : Routine → Fun 𝓤) (m : Machine) (n : ℕ) (s : Asked) where
   abbrev AskFn : Contract 𝓤
   AskFn = tripleOf 𝓤 H A ask-of.signature (ask-of.spec 𝓤 H A mem run)
 
@@ -139,7 +140,7 @@ module _ {M : Type 1} (𝓤 : URA M) (H : Heap 𝓤) (A : Atoms 𝓤) (mem : Mem
   of-verdict k u r = exE 𝓤 _ (λ us. snd∗ 𝓤 (sem 𝓤 H A (lasts verdict-of.ended tt (m, (n, (s, (k, (u, tt))))) us)) (fact 𝓤 (Settles m n s k u r)))
 
 module _ {M : Type 1} (𝓤 : URA M) (H : Heap 𝓤) (A : Atoms 𝓤) (W : Given 𝓤 H A) (at-mem : Memory → SProp 𝓤) (run : Routine → Fun 𝓤) (κ : Lft) (q : Share)
-    (b o : ℕ) (γ : GName) (m : Machine) (ws : List Write) (s : Step) (gm : Is S.the-row m (mval m ∷ [])) (room : Room T.the-row (length ws))
+    (b o : ℕ) (γ : GName) (m : Machine) (ws : List Write) (s : Asked) (gm : Is S.the-row m (mval m ∷ [])) (room : Room T.the-row (length ws))
     (gs : Is P.the-row s (pval s ∷ [])) where
   abbrev n : ℕ
   n = length ws
@@ -151,7 +152,7 @@ module _ {M : Type 1} (𝓤 : URA M) (H : Heap 𝓤) (A : Atoms 𝓤) (W : Given
   mach = sliceVal (b, o) n
 
   abbrev Arg : Type 0
-  Arg = Machine × (RefT (List Write) × (Step × Unit {0}))
+  Arg = Machine × (RefT (List Write) × (Asked × Unit {0}))
 
   abbrev a : Arg
   a = (m, (x γ, (s, tt)))
@@ -165,7 +166,7 @@ module _ {M : Type 1} (𝓤 : URA M) (H : Heap 𝓤) (A : Atoms 𝓤) (W : Given
   abbrev Own : Fml
   Own = MutSlice (named 0) κ T.the-row .own (x γ) (mach ∷ [])
 
-  exits : (v : Verdict) (us : List Write) → outcome (v .done) us ≡ stepOf m ws s → length us ≡ length ws → Is J.the-row v (vval v ∷ [])
+  exits : (v : Verdict) (us : List Write) → outcome (v .done) us ≡ stepBy (s .known) m ws (s .step) → length us ≡ length ws → Is J.the-row v (vval v ∷ [])
       → ent 𝓤 (⋆ 𝓤 H A (‵ (flft κ q) ∷ ‵ (finally T.the-row γ us) ∷ [])) (Post (LL.val D.the-type D′.the-laws (v .done)))
   exits v us e l gv =
       qed W (‵ (flft κ q) ∷ ‵ (finally T.the-row γ us) ∷ []) ∵
@@ -310,9 +311,9 @@ module _ {M : Type 1} (𝓤 : URA M) (H : Heap 𝓤) (A : Atoms 𝓤) (W : Given
         body l₀ l₁ l₂ l₃ l₄ l₅ l₆ l₇ l₈ l₉ l₁₀ l₁₁ l₁₂)))))))))))))
 
 module _ {M : Type 1} (𝓤 : URA M) (H : Heap 𝓤) (A : Atoms 𝓤) (W : Given 𝓤 H A) (mem : Memory → SProp 𝓤) (run : Routine → Fun 𝓤) (𝓣 : Tables 𝓤 H)
-    (known-ask : (m : Machine) (n : ℕ) (s : Step) → Triple 𝓤 (𝓣 .C #ask-of) (AskFn 𝓤 H A mem run m n s))
+    (known-ask : (m : Machine) (n : ℕ) (s : Asked) → Triple 𝓤 (𝓣 .C #ask-of) (AskFn 𝓤 H A mem run m n s))
     (known-search : Triple 𝓤 (𝓣 .C #search) (Search 𝓤 H A mem run))
-    (known-verdict : (m : Machine) (n : ℕ) (s : Step) → Triple 𝓤 (𝓣 .C #verdict-of) (VerdictFn 𝓤 H A mem run m n s))
+    (known-verdict : (m : Machine) (n : ℕ) (s : Asked) → Triple 𝓤 (𝓣 .C #verdict-of) (VerdictFn 𝓤 H A mem run m n s))
     (known-store : Triple 𝓤 (𝓣 .C #store) (Store 𝓤 H A mem run)) where
   step-walks : Walks 𝓤 H A f.ended stayed (WpFn 𝓤 H (𝓣 .C) (𝓣 .Λ) code.function) (f.clauses 𝓤 H A mem run)
   step-walks =

@@ -40,21 +40,24 @@ use denote.Triple.Spec.{Meets, tripleOf}
 use denote.Triple.Table.{entered, cited}
 use denote.Triple.Walked.{says, Stays, stay-none-slice, gave-slice, walkOf, goes-none-slice, goes-gave-slice, Walks, ends-at, walked, walk-meets}
 use denote.Exit.{yes}
-use Rattle.machine.proofs.Stepping.{Stepping, calls-step, machine-val, step-val, done-val}
+use Rattle.asking.proofs.Asked as S
+use Rattle.asking.proofs.Asked.Laws as S′
+use Rattle.asking.specs.Ask.{anew}
+use Rattle.asking.specs.declared.Asked.{Asked}
+use Rattle.decision.proofs.Known.{unknown-step}
+use Rattle.decision.specs.Known.{stepBy}
+use Rattle.machine.proofs.Stepping.{Stepping, calls-step, machine-val, asked-val, done-val}
 use Rattle.machine.proofs.step.Symbol as step-def
 use Rattle.machine.proofs.step.Symbol.{name as #step}
 use Rattle.machine.proofs.step.Met as step-thm
 use Rattle.number.specs.Buffer.{placed}
 use Rattle.rules.proofs.Done as D
 use Rattle.rules.proofs.Done.Laws as D′
-use Rattle.rules.specs.Step.{outcome, stepOf}
+use Rattle.rules.specs.Step.{outcome}
 use Rattle.rules.specs.declared.Done.{Done}
 use Rattle.state.proofs.Machine as Q
 use Rattle.state.proofs.Machine.Laws as Q′
 use Rattle.state.specs.declared.Machine.{Machine}
-use Rattle.step.proofs.Step as S
-use Rattle.step.proofs.Step.Laws as S′
-use Rattle.step.specs.declared.Step.{Step}
 use Rattle.writes.proofs.Calling.{calls-lent, landed}
 use Rattle.writes.proofs.Lent.{lent-at}
 use Rattle.writes.proofs.Shared.{LentShared, lends-shared, shared-back}
@@ -86,11 +89,13 @@ abbrev stayed : Stays (f.ended .signature .params) (f.ended .kept)
 stayed = (gave-slice (0 ∷ []) tt (plain (λ _. u32)), (gave-slice (1 ∷ []) tt (plain (λ _. T.the-row)), (stay-none-slice (2 ∷ []) tt (plain (λ _. u32)) yes, (gave-slice (3 ∷ []) tt (plain (λ _. u32)), tt))))
 
 -- what the calls leave is what the call leaves
-leaves : (ss asks an : List ℕ) (ws : List Write) {ss′ an′ : List ℕ} {ws′ : List Write} {m : Machine} {st : Step} {d : Done}
-    → m ≡ machineOf ss → st ≡ stepAsked asks → outcome d ws′ ≡ stepOf m ws st
+leaves : (ss asks an : List ℕ) (ws : List Write) {ss′ an′ : List ℕ} {ws′ : List Write} {m : Machine} {st : Asked} {d : Done}
+    → m ≡ machineOf ss → st ≡ anew (stepAsked asks) → outcome d ws′ ≡ stepBy (st .known) m ws (st .step)
     → (ss′ ≡ placed ss 0 (wordsOf (d .machine))) × (an′ ≡ placed an 0 (answerWords (d .answer))) → lent ss′ ws′ an′ ≡ called ss ws asks an
 unfolding called
-leaves ss asks an ws is-m is-st o e = rw (← is-m, ← is-st, ← o, e .0, e .1)
+leaves ss asks an ws {m = m} is-m is-st o e =
+    let as-asked = ap (λ (z : Asked). stepBy (z .known) m ws (z .step)) is-st in
+    rw (← is-m, ← (o ∙ as-asked ∙ unknown-step m ws (stepAsked asks)), e .0, e .1)
 
 module _ {M : Type 1} (𝓤 : URA M) (H : Heap 𝓤) (A : Atoms 𝓤) (mem : Memory → SProp 𝓤) (run : Routine → Fun 𝓤) where
   -- the contracts that the walk cites
@@ -186,11 +191,11 @@ module _ {M : Type 1} (𝓤 : URA M) (H : Heap 𝓤) (A : Atoms 𝓤) (W : Given
   goes-step-asked =
       qed W (‵ (flft κ₂ q₂) ∷ ‵ Own₂ ∷ []) ∵ nothing ! $ move ! (1 ∷ 0 ∷ []) $ join ! $ nothing ! $ move ! (2 ∷ 0 ∷ []) $ fjoin ! $ move ! (1 ∷ 0 ∷ []) $ join ! $ frame ! $ done !
 
-  abbrev StepAskedEn : Step → SProp 𝓤
+  abbrev StepAskedEn : Asked → SProp 𝓤
   StepAskedEn r = ensured 𝓤 H A step-asked.ended (step-asked.clauses 𝓤 H A at-mem run) (κ₂, tt) (x₂, tt) tt r
 
-  of-step-asked : (r : Step) → ent 𝓤 (StepAskedEn r) (fact 𝓤 (r ≡ stepAsked (now x₂)))
-  of-step-asked r = exE 𝓤 _ (λ ls. snd∗ 𝓤 (sem 𝓤 H A (lasts step-asked.ended (κ₂, tt) (x₂, tt) ls)) (fact 𝓤 (r ≡ stepAsked (now x₂))))
+  of-step-asked : (r : Asked) → ent 𝓤 (StepAskedEn r) (fact 𝓤 (r ≡ anew (stepAsked (now x₂))))
+  of-step-asked r = exE 𝓤 _ (λ ls. snd∗ 𝓤 (sem 𝓤 H A (lasts step-asked.ended (κ₂, tt) (x₂, tt) ls)) (fact 𝓤 (r ≡ anew (stepAsked (now x₂)))))
 
   abbrev to-put-done : Done → PutDone 𝓤 H A at-mem run .Ghost
   to-put-done d = (((κ₀, (κ₃, tt)), (q₀, (q₃, tt)), tt, (x₀ γ₀, (x₃, (d, tt))), (v₀ ∷ [], (v₃ ∷ [], (done-val d ∷ [], tt)))), tt)
@@ -250,7 +255,7 @@ module _ {M : Type 1} (𝓤 : URA M) (H : Heap 𝓤) (A : Atoms 𝓤) (W : Given
         lft-end ! tt $ use2 W (later (‵ Own₀ ⊛ ‵ (flft κ₀ q₀))) (shared-back u32 κ₀ (ν ∷ []) q₀ γ₀ b₀ o₀ ss 𝓤 H A W (named 0) (named 0) room₀) $ await ! tt $ split ! $
         -- [state; its token; the list's token; the list; asked's token; asked; answer's token; answer; _16 (8); …]
         move ! (5 ∷ []) $ use1 W (‵ Own₂ ⊛ ‵ Own₂) (shr-slice-copy 𝓤 H A W (named 2) κ₂ u32 .twice x₂ (v₂ ∷ [])) $ split ! $ move ! (6 ∷ 0 ∷ []) $ use2 W (raw (StepAsked 𝓤 H A at-mem run .pre to-step-asked)) goes-step-asked $
-        calls-lent ! fm (StepAsked 𝓤 H A at-mem run) known-step-asked to-step-asked S.the-row (LL.vals S.the-type S′.the-laws) (LL.tells S.the-type S′.the-laws) (λ r. r ≡ stepAsked (now x₂)) StepAskedEn κ₂ q₂ (λ k. id⊢ 𝓤 _) of-step-asked (and-then ! (load ! (from ! (stop !)) (look ! 34 refl)) (no-more !)) (λ i e₂ is-i.
+        calls-lent ! fm (StepAsked 𝓤 H A at-mem run) known-step-asked to-step-asked S.the-row (LL.vals S.the-type S′.the-laws) (LL.tells S.the-type S′.the-laws) (λ r. r ≡ anew (stepAsked (now x₂))) StepAskedEn κ₂ q₂ (λ k. id⊢ 𝓤 _) of-step-asked (and-then ! (load ! (from ! (stop !)) (look ! 34 refl)) (no-more !)) (λ i e₂ is-i.
         land ! (from ! (stop !)) (init ! 28 refl (LL.lawful S.the-type S′.the-laws 𝓤 H A W .typed i _ is-i .0)) $
         -- [asked's token; asked; state; its token; the list's token; the list; answer's token; answer; _16 (8); …]
         assigns ! (addr ! (from ! (fld ! refl (hop ! (look-in ! 36 (sub ! 0 refl (whole !))) (stop !))))) (from ! (stop !)) (init ! 20 refl (tt, tt)) $

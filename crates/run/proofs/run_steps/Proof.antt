@@ -48,13 +48,17 @@ use denote.Triple.Spec.{Meets, tripleOf}
 use denote.Triple.Table.{entered, cited}
 use denote.Triple.Walked.{says, Stays, stay-none, stay-none-slice, stay-slice, walkOf, goes-none, goes-none-slice, goes-slice, Walks, ends-at, walked, walk-meets}
 use denote.Exit.{yes}
-use Rattle.machine.proofs.Stepping.{Stepping, calls-step, machine-val, step-val, done-val}
+use Rattle.asking.proofs.Asked as S
+use Rattle.asking.proofs.Asked.Laws as S′
+use Rattle.asking.specs.declared.Asked.{Asked}
+use Rattle.decision.specs.Known.{stepBy}
+use Rattle.machine.proofs.Stepping.{Stepping, calls-step, machine-val, asked-val, done-val}
 use Rattle.machine.proofs.step.Symbol as step-def
 use Rattle.machine.proofs.step.Symbol.{name as #step}
 use Rattle.machine.proofs.step.Met as step-thm
 use Rattle.rules.proofs.Done as D
 use Rattle.rules.proofs.Done.Laws as D′
-use Rattle.rules.specs.Step.{outcome, stepOf}
+use Rattle.rules.specs.Step.{outcome}
 use Rattle.rules.specs.declared.Done.{Done}
 use Rattle.schedule.proofs.Section as N
 use Rattle.schedule.proofs.Section.Laws as N′
@@ -63,9 +67,6 @@ use Rattle.schedule.specs.declared.Section.{Section}
 use Rattle.state.proofs.Machine as Q
 use Rattle.state.proofs.Machine.Laws as Q′
 use Rattle.state.specs.declared.Machine.{Machine}
-use Rattle.step.proofs.Step as S
-use Rattle.step.proofs.Step.Laws as S′
-use Rattle.step.specs.declared.Step.{Step}
 use Rattle.writes.proofs.Again.{LentAgain, lends-again, comes-back}
 use Rattle.writes.proofs.Arrays.{to-cells, from-cells, big-lit}
 use Rattle.writes.proofs.Calling.{calls-values, calls-lent}
@@ -242,13 +243,13 @@ module _ {M : Type 1} (𝓤 : URA M) (H : Heap 𝓤) (A : Atoms 𝓤) (W : Given
 
   -- in a state, with the list lent for ν
   module _ (s : State t the-run os) where
-    abbrev asked : Step
-    asked = s .g .ahead .step
+    abbrev asked : Asked
+    asked = s .g .ahead .asked
 
     is-m : Is Q.the-row (s .g .machine) (machine-val (s .g .machine) ∷ [])
     is-m = LL.owed G.the-type G′.the-laws (s .g) _ (s .is-g) .0
 
-    is-asked : Is S.the-row asked (step-val asked ∷ [])
+    is-asked : Is S.the-row asked (asked-val asked ∷ [])
     is-asked = LL.owed A′.the-type A″.the-laws (s .g .ahead) _ (LL.owed G.the-type G′.the-laws (s .g) _ (s .is-g) .1 .0) .1 .0
 
     many : length (s .ws) ≡ 1024
@@ -344,7 +345,7 @@ module _ {M : Type 1} (𝓤 : URA M) (H : Heap 𝓤) (A : Atoms 𝓤) (W : Given
     Turn s = anyQ (afterTurn 𝓤 H (Below 𝓤 H A ≺ I s) (post 𝓤 H Left))
 
     -- the second half of a turn: the step is done
-    goes-on : (s : State t the-run os) → s .g .ahead .on ≡ true → (d : Done) → Is D.the-row d (done-val d ∷ []) → (ws : List Write) → Is Row ws (av ws ∷ []) → outcome d ws ≡ stepOf (s .g .machine) (s .ws) (asked s)
+    goes-on : (s : State t the-run os) → s .g .ahead .on ≡ true → (d : Done) → Is D.the-row d (done-val d ∷ []) → (ws : List Write) → Is Row ws (av ws ∷ []) → outcome d ws ≡ stepBy (asked s .known) (s .g .machine) (s .ws) (asked s .step)
         → Sq W (Cells (s .bs) (‵ (fat fullShare D′.mir l₇ 0 (done-val d))) (s .g) ws) (runs C Λ E (rest (rest (rest (rest (rest mir.turn-1))))) (Turn s))
     unfolding afterTurn
     goes-on s e d is-d ws is-ws done-by =
@@ -377,7 +378,7 @@ module _ {M : Type 1} (𝓤 : URA M) (H : Heap 𝓤) (A : Atoms 𝓤) (W : Given
     steps : (s : State t the-run os) → s .g .ahead .on ≡ true → Sq W (I s) (runs C Λ E mir.turn-1 (Turn s))
     unfolding afterTurn
     steps s e =
-        assigns ! (of-opd ! (load ! (from ! (fld ! refl (fld ! refl (stop !)))) (look-in ! 18 (sub ! 0 refl (sub ! 1 refl (whole !)))))) (from ! (stop !)) (init ! 12 refl (tt, tt)) $
+        assigns ! (of-opd ! (load ! (from ! (fld ! {τ = A″.mir} {d = 4640} refl (fld ! {d = 0} refl (stop !)))) (look-in ! 18 (sub ! 0 {d = 0} refl (sub ! 1 {τ = A″.mir} {d = 4640} refl (whole !)))))) (from ! (stop !)) (init ! 12 refl (tt, tt)) $
         rewrite ! 12 (λ (k : Bool). ‵ (fat fullShare tyBool l₉ 0 (vbool k))) e refl $ stays ! (load ! (from ! (stop !)) (look ! 12 refl)) $
         -- the list is lent as a slice for ν
         assigns ! (addr ! (from ! (stop !))) (from ! (stop !)) (init ! 10 refl (tt, tt)) $
@@ -389,8 +390,8 @@ module _ {M : Type 1} (𝓤 : URA M) (H : Heap 𝓤) (A : Atoms 𝓤) (W : Given
         (lends-slice 𝓤 H A W T.the-row (named 0) (ν ∷ []) (s .ws) l₅ 0 (room-w s)) $ await ! tt $ Kit.pick ! (λ δ. split ! $ move ! (2 ∷ 0 ∷ []) $
         -- [ν's token; the slice; the lender's part; the tokens; text; out; _13; …; that _5 dies; _4; …]
         calls-step ! fm at-mem run known-step (ν ∷ []) fullShare l₅ 0 δ (s .ws) (s .g .machine) (asked s) (is-m s) (is-asked s)
-        (and-then ! (load ! (from ! (fld ! refl (stop !))) (look-in ! 20 (sub ! 0 refl (whole !)))) (and-then ! (load ! (from ! (stop !)) (look ! 10 refl))
-        (and-then ! (load ! (from ! (fld ! refl (fld ! refl (stop !)))) (look-in ! 20 (sub ! 1 refl (sub ! 1 refl (whole !))))) (no-more !)))) (λ d us done-by l is-d.
+        (and-then ! (load ! (from ! (fld ! {τ = Q′.mir} {d = 0} refl (stop !))) (look-in ! 20 (sub ! 0 {τ = Q′.mir} {d = 0} refl (whole !)))) (and-then ! (load ! (from ! (stop !)) (look ! 10 refl))
+        (and-then ! (load ! (from ! (fld ! {τ = A″.mir} {d = 4640} refl (fld ! {τ = S′.mir} {d = 4} refl (stop !)))) (look-in ! 20 (sub ! 1 {τ = S′.mir} {d = 4} refl (sub ! 1 {τ = A″.mir} {d = 4640} refl (whole !))))) (no-more !)))) (λ d us done-by l is-d.
         -- [ν's token; the last list; the lender's part; the tokens; text; out; _13 (7); …; _7 (19); _6 (21); …; that _5 dies; _4; …]
         land ! (from ! (stop !)) (init ! 19 refl (LL.lawful D.the-type D′.the-laws 𝓤 H A W .typed d _ is-d .0)) $
         -- ν is ended, and the list is whole again
