@@ -18,7 +18,6 @@ use Rattle.line.specs.declared.LineRead.the-variants.{Took}
 use Rattle.laws.proofs.Choice.{either}
 use Rattle.number.proofs.Stores.{below-sets, after-sets, stands-sets, room-yes}
 use Rattle.number.specs.Buffer.{room, placed, putAt, putNumber}
-use Rattle.number.specs.declared.Written.{Written}
 use Rattle.number.specs.declared.Written.the-variants.{Next, Short}
 use Rattle.printed.specs.Printed.{printedText}
 use Rattle.promises.specs.Writing.{WrittenBack, OnlyItsBytes, RefusedUntouched, PrintedUntouched}

@@ -87,7 +87,7 @@ restOf s (TakeSwap t) = dequeue3 s t
 restOf s (TakeRead t) = dequeue4 s t
 restOf s (TakeFree t w) = dequeue5 s t w
 
--- which kind of line the rest of a call waits for, by its first event: 2 of a plain location, which has a time stamp; 1 of an atomic one; 0 none
+-- which kind of line the rest of a call waits for, by its first event: 2 a plain location's, which has a time stamp; 1 an atomic one's; 0 none
 abbrev pub waitsFor : Code → ℕ
 waitsFor (answers a) = 0
 waitsFor (reads a f) = 2
