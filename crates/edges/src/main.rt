@@ -121,6 +121,7 @@ fn main() {
         b"threads-9",
         b"shape 2\nthreads 9\nslots 1\nplain 0\nflag 0\nsteps 0\n",
     );
+    show_whole(b"threads-9-no-LF", b"shape 2\nthreads 9");
     show_whole(
         b"later-form",
         b"shape 2\nthreads 9\nslots x\nplain 0\nflag 0\nsteps 0\n",

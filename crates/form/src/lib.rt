@@ -1,4 +1,5 @@
 // The line forms as one table of words and operand kinds, the ranges of their numbers, and what a line of each form holds.
+use step::MOST;
 use step::Step;
 use step::Verb;
 ghost use mathlib.Core.Path.{_≡_};
@@ -130,7 +131,7 @@ pub fn limit(kind: Kind, v: u64) -> Limited
             }
         }
         Kind::Thousandths => {
-            if v <= 1000000000 {
+            if v <= MOST as u64 {
                 Limited::Within(v as u32)
             } else {
                 Limited::Outside

@@ -14,6 +14,7 @@ use Rattle.line.specs.declared.Operand.{Operand}
 use Rattle.line.specs.declared.Operand.the-variants.{Good, OutOfRange, NoForm}
 use Rattle.line.specs.declared.Row.{Row}
 use Rattle.line.specs.declared.Row.the-variants.{Read, RangeAt, NotForm}
+use Rattle.fault.specs.Refusal.{numberOf}
 use Rattle.fault.specs.declared.Refusal.the-variants.{BadForm, BadRange}
 use Rattle.line.specs.declared.LineRead.{LineRead}
 use Rattle.line.specs.declared.LineRead.the-variants.{Took, Fault}
@@ -73,3 +74,8 @@ lineRead due at (NotForm x) = Fault (BadForm at x)
 
 unfoldable pub readLine : Due → List ℕ → ℕ → LineRead
 readLine due s at = lineRead due at (dueRow due s at)
+
+-- the paper's number: 2 and 3, or none for a line that is read
+abbrev pub readNumber : LineRead → ℕ
+readNumber (Took x p) = 0
+readNumber (Fault r) = numberOf r

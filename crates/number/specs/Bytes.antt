@@ -1,6 +1,6 @@
 -- The bytes of a text in ASCII, and a text that stands at a place of another. Assumes nothing.
 use Prim.Native.Nat.{ℕ, _+_}
-use Prim.Native.Char.{Char, code}
+use Prim.Native.Char.{code}
 use Prim.Native.String.{String}
 use Prim.Native.String as text
 use mathlib.Core.Path.{_≡_}

@@ -1,7 +1,7 @@
 // A machine is opened from T, C and the first values of its plain cells and flags.
 ghost use mathlib.Core.Path.{_≡_};
 ghost use Prim.Native.Nat.{_≤_};
-ghost use lib.ListN.{length, getD};
+ghost use lib.ListN.{length};
 ghost use Rattle.opening.specs.Opening.{weightsStand, givenRoom, flagsRoom, statusesRoom, unmoved, refusedOpening, fresh, openedOf};
 use laws::both;
 use laws::number_at;

@@ -1,4 +1,4 @@
--- What is promised of writing a line holds. Assumes nothing.
+-- What is promised of lines that are written holds. Assumes nothing.
 use mathlib.Core.Path.{_≡_, refl, ap, _∙_}
 use mathlib.Core.Bool.{true, false}
 use mathlib.Core.List.{List}
@@ -17,8 +17,10 @@ use Rattle.line.specs.Row.{readLine}
 use Rattle.line.specs.declared.LineRead.the-variants.{Took}
 use Rattle.laws.proofs.Choice.{either}
 use Rattle.number.proofs.Stores.{below-sets, after-sets, stands-sets, room-yes}
-use Rattle.number.specs.Buffer.{room, placed}
-use Rattle.promises.specs.Writing.{WrittenBack, OnlyItsBytes, RefusedUntouched}
+use Rattle.number.specs.Buffer.{room, placed, putAt, putNumber}
+use Rattle.number.specs.declared.Written.the-variants.{Next, Short}
+use Rattle.printed.specs.Printed.{printedText}
+use Rattle.promises.specs.Writing.{WrittenBack, OnlyItsBytes, RefusedUntouched, PrintedUntouched}
 use Rattle.writer.specs.Writer.{lineWritten, linePlaced, writtenNumber}
 use Rattle.writer.specs.declared.LineWritten.{LineWritten}
 use Rattle.writer.specs.declared.LineWritten.the-variants.{Upto, NotInRange, NoRoom}
@@ -71,3 +73,16 @@ only-its-bytes l at x =
 pub refused-untouched : RefusedUntouched
 refused-untouched l at x =
     by-answer (λ w m. 0 < writtenNumber w → m ≡ l) l at x (λ r h n. absurd (not-suc-le-zero n)) (λ n. refl) (λ n. refl)
+
+-- a text that has no room
+put-short : (l : List ℕ) (at : ℕ) (t : List ℕ) → putNumber (putAt l at t) ≡ 15 → placed l at t ≡ l
+unfolding putAt placed
+put-short l at t n =
+    ⊎-elim
+    (λ (e : room l at (length t) ≡ true). absurd (omega (arith, rw e at n)))
+    (λ (e : room l at (length t) ≡ false). rw e)
+    (either (room l at (length t)))
+
+pub printed-untouched : PrintedUntouched
+printed-untouched l (Next p) x n = put-short l p (printedText x) n
+printed-untouched l Short x n = refl

@@ -2,15 +2,15 @@
 // no longer holds or is no longer proved.
 ghost use Rattle.number.specs.Promise.{CountReadBack, CountOnlyText, WeightReadBack, WeightOnlyText};
 ghost use Rattle.texts.specs.Promise.{LineReadBack, LineOnlyText, LineOneText};
-ghost use Rattle.texts.specs.Promise.{ScheduleReadBack, ScheduleOnlyText};
+ghost use Rattle.texts.specs.Promise.{ScheduleReadBack, ScheduleOnlyText, LineNumbered, JudgedNumbered};
 ghost use Rattle.cases.specs.Table.{StarredHold};
 ghost use Rattle.rules.specs.Kept.{Numbered, RefusedKeeps, TakenCounts, StandingKept, FreshStands, FreshWhole, WholeKept, RefusedFalls, RoomKept};
-ghost use Rattle.published.specs.Follows.{TakenFollows, AllowedTaken, OneEvent};
+ghost use Rattle.published.specs.Follows.{TakenFollows, AllowedTaken, OneEvent, DueByCode};
 ghost use Rattle.rules.specs.Queue.{QueueHolds};
 ghost use Rattle.rules.specs.Reached.{ReachedHolds};
 ghost use Rattle.run.specs.Promise.{ReportShort, ReportWhole};
 ghost use Rattle.outside.specs.Promise.{ImageLong, ImageFaithful};
-ghost use Rattle.promises.specs.Writing.{WrittenBack, OnlyItsBytes, RefusedUntouched};
+ghost use Rattle.promises.specs.Writing.{WrittenBack, OnlyItsBytes, RefusedUntouched, PrintedUntouched};
 
 // Each number has one text, and the readers take those texts only.
 pub fn numbers_have_one_text()
@@ -27,9 +27,14 @@ pub fn schedules_have_one_text()
     ensures { λ r. ⌜ ScheduleReadBack × ScheduleOnlyText ⌝ }
 {}
 
-// A line that was written is read back, only its own bytes change, and a refused one changes none.
+// Every text is taken or refused by 1, 2, 3 or 4, every line read or refused by 2 or 3.
+pub fn texts_are_numbered()
+    ensures { λ r. ⌜ JudgedNumbered × LineNumbered ⌝ }
+{}
+
+// A line that was written is read back, only its own bytes change, and a refused one changes none, nor does a printed one.
 pub fn lines_are_written()
-    ensures { λ r. ⌜ WrittenBack × OnlyItsBytes × RefusedUntouched ⌝ }
+    ensures { λ r. ⌜ WrittenBack × OnlyItsBytes × RefusedUntouched × PrintedUntouched ⌝ }
 {}
 
 // The starred cases and the whole listing, as one table under one statement.
@@ -52,9 +57,10 @@ pub fn room_is_kept()
     ensures { λ r. ⌜ RoomKept × FreshWhole × WholeKept ⌝ }
 {}
 
-// A step is taken exactly when it is admitted and the published rules allow it, and it does what the rule says.
+// A step is taken exactly when it is admitted and the published rules allow it, and it does what the rule says. The line that is due at a
+// place is the one that the published code waits for.
 pub fn steps_follow_the_rules()
-    ensures { λ r. ⌜ TakenFollows × AllowedTaken × OneEvent ⌝ }
+    ensures { λ r. ⌜ TakenFollows × AllowedTaken × OneEvent × DueByCode ⌝ }
 {}
 
 // From a fresh machine, over any steps, refused ones included: the won calls' answers are those of a plain first-in first-out list of at

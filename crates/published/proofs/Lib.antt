@@ -4,3 +4,4 @@ pub mod Made
 pub mod Lines
 pub mod Follows
 pub mod OneEvent
+pub mod Due

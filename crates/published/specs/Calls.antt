@@ -87,6 +87,15 @@ restOf s (TakeSwap t) = dequeue3 s t
 restOf s (TakeRead t) = dequeue4 s t
 restOf s (TakeFree t w) = dequeue5 s t w
 
+-- which kind of line the rest of a call waits for, by its first event: 2 a plain location's, which has a time stamp; 1 an atomic one's; 0 none
+abbrev pub waitsFor : Code → ℕ
+waitsFor (answers a) = 0
+waitsFor (reads a f) = 2
+waitsFor (writes a v c) = 2
+waitsFor (reads-at A f) = 1
+waitsFor (writes-at A v c) = 1
+waitsFor (swaps-at A u v c d) = 1
+
 -- what a line of a thread at a place runs
 abbrev pub codeOf : Shape → Verb → Place → Code
 codeOf s (Get c t) p = reads c (λ v. answers (Value v))

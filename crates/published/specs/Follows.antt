@@ -6,7 +6,7 @@ use mathlib.Core.Logic.{_⊎_, _≢_}
 use Prim.Native.Nat.{ℕ, _-_, _<_, _≤_}
 use lib.ListN.{length}
 use Rattle.rules.specs.Step.{asked, stepOf}
-use Rattle.published.specs.Calls.{Code, Makes, restOf, codeOf, stampIn, answers}
+use Rattle.published.specs.Calls.{Code, Makes, restOf, waitsFor, codeOf, stampIn, answers}
 use Rattle.published.specs.Memory.{Stamps, Memory, Event, Rule}
 use Rattle.refusal.specs.Refusal.{asks, dueAt, named, greatest, full}
 use Rattle.standing.specs.Stands.{stands}
@@ -87,3 +87,7 @@ abbrev pub OneEvent : Type 0
 OneEvent =
     (k : ℕ) (σ σ' σ'' : Memory) (W W' W'' : Stamps) (c d d' : Code) (t : ℕ) (e e' : Event)
     → Makes c t e d → Rule k σ W e σ' W' → Makes c t e' d' → Rule k σ W e' σ'' W'' → (e ≡ e') × (d ≡ d')
+
+-- Which line is due at a place (refusal 8) is what the rest of its call waits for.
+abbrev pub DueByCode : Type 0
+DueByCode = (s : Shape) (p : Place) → dueAt p ≡ waitsFor (restOf s p)

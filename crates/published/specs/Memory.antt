@@ -1,4 +1,5 @@
--- The memory rules as published: source 000, Fig. 1 and Fig. 2. The time stamp that a rule leaves open is part of the event. Assumes nothing.
+-- The memory rules as published: source 000, Fig. 1 and Fig. 2 less its two rules of allocation, which document 01 does not cover. The time
+-- stamp that a rule leaves open is part of the event. Assumes nothing.
 use mathlib.Core.Path.{_≡_}
 use mathlib.Core.Logic.{_≢_}
 use Prim.Native.Nat.{ℕ, _<_, _≤_, max}

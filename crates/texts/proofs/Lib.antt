@@ -9,3 +9,4 @@ pub mod Lines
 pub mod OnlySchedules
 pub mod ReadSchedules
 pub mod Places
+pub mod Numbers

@@ -1,4 +1,4 @@
--- A text is refused at a place inside it, if it is not too long. Assumes nothing.
+-- A text is refused at a place inside it, and not for its length, if it is not too long. Assumes nothing.
 use Prim.Native.Nat.{ℕ, zero, suc, _≤_}
 use mathlib.Core.Bool.{true, false}
 use mathlib.Core.List.{List}
@@ -15,7 +15,7 @@ use Rattle.form.specs.declared.Header.the-variants.{Flag, Plain, Shape, Slots, 
 use Rattle.laws.proofs.Choice.{either}
 use Rattle.texts.proofs.Inside.{line-inside}
 use Rattle.texts.proofs.OnlyLines.{line-is}
-use Rattle.fault.specs.Refusal.{placeOf}
+use Rattle.fault.specs.Refusal.{numberOf, placeOf}
 use Rattle.line.specs.Row.{dueRow, lineRead, readLine}
 use Rattle.line.specs.declared.LineRead.{LineRead}
 use Rattle.line.specs.declared.LineRead.the-variants.{Fault, Took}
@@ -30,18 +30,22 @@ use Rattle.schedule.specs.declared.Passed.{Passed}
 use Rattle.schedule.specs.declared.Passed.the-variants.{Past, Stuck}
 use Rattle.schedule.specs.declared.Sections.{Sections}
 
+-- a refusal of one of the lines of n bytes, or of what follows them
+abbrev pub Inside : ℕ → Refusal → Type 0
+Inside n r = (placeOf r ≤ n) × (2 ≤ numberOf r)
+
 -- a place up to one: where a line was read to, or where it is refused
 abbrev ReadIn : ℕ → LineRead → Type 0
 ReadIn n (Took x p) = p ≤ n
-ReadIn n (Fault r) = placeOf r ≤ n
+ReadIn n (Fault r) = Inside n r
 
 abbrev PassedIn : ℕ → Passed → Type 0
 PassedIn n (Past k p) = p ≤ n
-PassedIn n (Stuck r) = placeOf r ≤ n
+PassedIn n (Stuck r) = Inside n r
 
-abbrev JudgedIn : ℕ → Judged → Type 0
+abbrev pub JudgedIn : ℕ → Judged → Type 0
 JudgedIn n (Taken x) = Unit {0}
-JudgedIn n (Refused r) = placeOf r ≤ n
+JudgedIn n (Refused r) = Inside n r
 
 module _ (s : List ℕ) where
   line-in : (d : Due) (at : ℕ) → at ≤ length s → ReadIn (length s) (readLine d s at)
@@ -52,8 +56,8 @@ module _ (s : List ℕ) where
       go (Read f p) e =
           let t = line-is d s at _ p (ap (lineRead d at) e) in
           omega (arith, t .here .next, line-inside _ s at (t .here .stands))
-      go (RangeAt n) e = h
-      go (NotForm x) e = h
+      go (RangeAt n) e = (h, omega arith)
+      go (NotForm x) e = (h, omega arith)
 
   passed-line-in : (r : LineRead) → ReadIn (length s) r → PassedIn (length s) (passedLine r)
   passed-line-in (Took x p) h = h
@@ -80,12 +84,12 @@ module _ (s : List ℕ) where
   ended-in : (m : Passed) (x : Sections) → PassedIn (length s) m → JudgedIn (length s) (ended s m x)
   ended-in (Past n p) x h =
       ⊎-elim
-      (λ (l : ltb p (length s) ≡ true). rw l h)
+      (λ (l : ltb p (length s) ≡ true). rw l (h, omega arith))
       (λ (l : ltb p (length s) ≡ false). rw l tt)
       (either (ltb p (length s)))
   ended-in (Stuck r) x h = h
 
-  sections-in : JudgedIn (length s) (sections s)
+  pub sections-in : JudgedIn (length s) (sections s)
   unfolding sections
   sections-in =
       let shape = header Shape s (Past 0 0) in
@@ -99,23 +103,27 @@ module _ (s : List ℕ) where
       let in-steps = header-in Steps (lines WeightDue s flag) (lines-in WeightDue flag in-flag) in
       ended-in (lines StepDue s steps) (foundSections threads slots plain flag steps) (lines-in StepDue steps in-steps)
 
-judged-in : (s : List ℕ) → JudgedIn 65536 (judged s)
+abbrev PlacedIn : ℕ → Judged → Type 0
+PlacedIn n (Taken x) = Unit {0}
+PlacedIn n (Refused r) = placeOf r ≤ n
+
+judged-placed : (s : List ℕ) → PlacedIn 65536 (judged s)
 unfolding judged
-judged-in s =
+judged-placed s =
     ⊎-elim
     (λ (l : ltb 65536 (length s) ≡ true). rw l (omega arith))
     (λ (l : ltb 65536 (length s) ≡ false). rw l (go (sections s) (sections-in s) (ltb-false _ _ l)))
     (either (ltb 65536 (length s)))
   where
-    go : (j : Judged) → JudgedIn (length s) j → length s ≤ 65536 → JudgedIn 65536 j
+    go : (j : Judged) → JudgedIn (length s) j → length s ≤ 65536 → PlacedIn 65536 j
     go (Taken x) h b = tt
-    go (Refused r) h b = omega arith
+    go (Refused r) h b = omega (arith, h .0)
 
 -- the place of a refusal
 pub refusal-placed : (s : List ℕ) (r : Refusal) → reads s ≡ refusal r → placeOf r ≤ 65536
 unfolding reads
-refusal-placed s r e = go (judged s) refl (judged-in s)
+refusal-placed s r e = go (judged s) refl (judged-placed s)
   where
-    go : (j : Judged) → judged s ≡ j → JudgedIn 65536 j → placeOf r ≤ 65536
+    go : (j : Judged) → judged s ≡ j → PlacedIn 65536 j → placeOf r ≤ 65536
     go (Taken x) q h = let z : _≡_ {A = ℕ} 0 1 = cc (rw q at e) in absurd (omega arith)
     go (Refused f) q h = let g : f ≡ r = cc (rw q at e) in rw (← g) h

@@ -14,6 +14,7 @@ use Rattle.form.specs.declared.Due.the-variants.{WeightDue, StepDue}
 use Rattle.form.specs.declared.Line.{Line}
 use Rattle.form.specs.declared.Line.the-variants.{HeaderLine, WeightLine, StepLine}
 use Rattle.line.specs.Row.{readLine}
+use Rattle.fault.specs.Refusal.{numberOf}
 use Rattle.fault.specs.declared.Refusal.{Refusal}
 use Rattle.line.specs.declared.LineRead.{LineRead}
 use Rattle.line.specs.declared.LineRead.the-variants.{Took, Fault}
@@ -97,6 +98,11 @@ scheduleOf s x =
       flag = weightsAt s (x .flag);
       steps = stepsAt s (x .steps);
     }
+
+-- the paper's number: 1 to 4, or none for a text that is taken
+abbrev pub judgedNumber : Judged → ℕ
+judgedNumber (Taken x) = 0
+judgedNumber (Refused r) = numberOf r
 
 -- what the reader makes of a text: a schedule, or a refusal
 pub data Outcome : Type 0 where

@@ -25,8 +25,11 @@ cast-t11 c = search needs
 enum-told-2 : tie.Need-enum-told-2
 enum-told-2 c = search needs
 
-cast-t14 : tie.Need-cast-t14
-cast-t14 c = search needs
+cast-if4 : tie.Need-cast-if4
+cast-if4 c = search needs
+
+cast-t15 : tie.Need-cast-t15
+cast-t15 c = search needs
 
 returns-2 : tie.Need-returns-2
 returns-2 c = rw (c .before .enum-told .given .1) (sym (nothing-in _ (c .if1 .taken)))
@@ -57,7 +60,8 @@ limit-spec =
     cast-if3
     cast-t11
     enum-told-2
-    cast-t14
+    cast-if4
+    cast-t15
     returns-2
     returns-3
     returns-4
