@@ -5,14 +5,16 @@ ghost use Prim.Native.Nat.{_+_, _*_, _<_, _≤_};
 ghost use lib.ListN.{length, replicate};
 ghost use Rattle.laws.specs.Lists.{filled};
 ghost use Rattle.number.specs.Buffer.{placed, Wrote};
+ghost use Rattle.standing.specs.Stands.{nameIn};
 ghost use Rattle.state.specs.State.{zeroAtomic, at, atomicAt};
-ghost use Rattle.state.specs.declared.Name.the-variants.{Flag, Status};
 ghost use Rattle.state.specs.declared.Place.the-variants.{Idle};
 ghost use Rattle.view.specs.View.{zeroView};
 ghost use Rattle.outside.specs.Image.{placeWords, placeOf, inTurn, atomicWords, threadWords, heading, wordsOf, word, viewFrom, atomicFrom, placeFrom, machineOf};
 ghost use Rattle.outside.specs.Asked.{verbOf, stepAsked, answerWords};
 ghost use Rattle.outside.specs.Call.{lent, called};
 use laws::number_at;
+use rules::Done;
+use standing::Family;
 use state::Atomic;
 use state::Machine;
 use state::Place;
@@ -22,6 +24,7 @@ use step::Answer;
 use step::Step;
 use step::Verb;
 use view::View;
+use writes::Write;
 
 // An image, read: its first values from 6, its threads from 22, head at 302, tail at 335, flags from 368, statuses from 632.
 
@@ -257,30 +260,16 @@ fn write_threads(buf: &mut [u32], p: usize, m: Machine) -> usize
     q
 }
 
-fn write_flags(buf: &mut [u32], p: usize, m: Machine) -> usize
-    requires { ⌜ p + 264 ≤ length (now buf) ⌝ }
-    ensures { λ r. ⌜ Wrote (now (buf .entry)) p (inTurn (λ i. atomicWords (atomicAt m (Flag i))) 8) r (now (buf .exit)) ⌝ }
-    ensures { λ r. ⌜ r ≡ p + 264 ⌝ }
+// The atomic cells of a family.
+fn write_atomics(buf: &mut [u32], p: usize, m: Machine, family: Family, n: usize) -> usize
+    requires { ⌜ p + 33 * n ≤ length (now buf) ⌝ }
+    ensures { λ r. ⌜ Wrote (now (buf .entry)) p (inTurn (λ i. atomicWords (atomicAt m (nameIn family i))) n) r (now (buf .exit)) ⌝ }
+    ensures { λ r. ⌜ r ≡ p + 33 * n ⌝ }
 {
     let mut q = p;
     let mut i: usize = 0;
-    while i < 8 {
-        let a = m.flags[i];
-        q = write_atomic(buf, q, a);
-        i += 1;
-    }
-    q
-}
-
-fn write_statuses(buf: &mut [u32], p: usize, m: Machine) -> usize
-    requires { ⌜ p + 528 ≤ length (now buf) ⌝ }
-    ensures { λ r. ⌜ Wrote (now (buf .entry)) p (inTurn (λ i. atomicWords (atomicAt m (Status i))) 16) r (now (buf .exit)) ⌝ }
-    ensures { λ r. ⌜ r ≡ p + 528 ⌝ }
-{
-    let mut q = p;
-    let mut i: usize = 0;
-    while i < 16 {
-        let a = m.statuses[i];
+    while i < n {
+        let a = state::atomic_of(m, standing::name_in(family, i));
         q = write_atomic(buf, q, a);
         i += 1;
     }
@@ -314,8 +303,8 @@ fn words_of(m: Machine) -> [u32; 1160]
     let p = write_threads(&mut image, p, m);
     let p = write_atomic(&mut image, p, m.head);
     let p = write_atomic(&mut image, p, m.tail);
-    let p = write_flags(&mut image, p, m);
-    write_statuses(&mut image, p, m);
+    let p = write_atomics(&mut image, p, m, Family::Flags, 8);
+    write_atomics(&mut image, p, m, Family::Statuses, 16);
     image
 }
 
@@ -376,25 +365,31 @@ fn answer_words(a: Answer) -> [u32; 2]
     }
 }
 
-// One step of the machine whose image is lent, for any image, list and step asked. Afterwards `state` has the image and `answer` the
-// two words of the answer, each where it has room for all of them; the list is as the step leaves it.
-#[no_mangle]
-pub extern "C" fn dentralupo_step(
-    state: &mut [u32],
-    cells: &mut [u32],
-    stamps: &mut [u32],
-    values: &mut [u32],
-    asked: &[u32],
-    answer: &mut [u32],
-)
-    ensures { λ r. ⌜ lent (now (state .exit)) (now (cells .exit)) (now (stamps .exit)) (now (values .exit)) (now (answer .exit)) ≡ called (now (state .entry)) (now (cells .entry)) (now (stamps .entry)) (now (values .entry)) (now (asked .entry)) (now (answer .entry)) ⌝ }
+// What a step leaves, put into an image and an answer.
+fn put_done(state: &mut [u32], answer: &mut [u32], done: Done)
+    ensures { λ r. ⌜ (now (state .exit) ≡ placed (now (state .entry)) 0 (wordsOf (done .machine))) × (now (answer .exit) ≡ placed (now (answer .entry)) 0 (answerWords (done .answer))) ⌝ }
 {
-    let m = machine_of(state);
-    let done = machine::step(m, cells, stamps, values, step_asked(asked));
     let next = done.machine;
     let image = words_of(next);
     put_words(state, &image);
     let said = done.answer;
     let words = answer_words(said);
     put_words(answer, &words);
+}
+
+// One step of the machine whose image is lent, for any image, list and step asked. Afterwards `state` has the image and `answer` the
+// two words of the answer, each where it has room for all of them; the list is as the step leaves it.
+#[no_mangle]
+pub extern "C" fn dentralupo_step(
+    state: &mut [u32],
+    writes: &mut [Write],
+    asked: &[u32],
+    answer: &mut [u32],
+)
+    ensures { λ r. ⌜ lent (now (state .exit)) (now (writes .exit)) (now (answer .exit)) ≡ called (now (state .entry)) (now (writes .entry)) (now (asked .entry)) (now (answer .entry)) ⌝ }
+{
+    let m = machine_of(state);
+    let step = step_asked(asked);
+    let done = machine::step(m, writes, step);
+    put_done(state, answer, done);
 }

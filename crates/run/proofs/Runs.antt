@@ -1,141 +1,193 @@
--- A run, one step at a time: what is left of it decides the whole. Assumes nothing.
-use Prim.Native.Nat.{_+_, _-_, _<_, suc, zero, ℕ}
+-- A run, one step at a time: what is left of it comes to the whole. Assumes nothing.
+use Prim.Native.Nat.{_+_, _-_, _<_, _≤_, _^_, suc, zero, ℕ}
 use lib.ListN.{length, replicate}
+use mathlib.Core.Bool.{Bool, true, false}
 use mathlib.Core.List.{List, [], _∷_, map}
 use mathlib.Core.Path.{_∙_, _≡_, ap, refl, sym}
 use native.Mathlib.Omega.{arith}
 use Rattle.form.specs.declared.Due.the-variants.{StepDue}
 use Rattle.form.specs.declared.Line.{Line}
-use Rattle.rules.proofs.Over.{over-records}
 use Rattle.rules.proofs.Refused.{refused-keeps}
-use Rattle.rules.specs.Kept.{numberGiven}
 use Rattle.line.specs.Row.{readLine}
-use Rattle.line.specs.declared.LineRead.the-variants.{Took}
-use Rattle.rules.specs.Step.{Over, after, stepOf, stepOver}
+use Rattle.line.specs.declared.LineRead.{LineRead}
+use Rattle.line.specs.declared.LineRead.the-variants.{Fault, Took}
+use Rattle.rules.specs.Step.{Outcome, outcome, stepOf}
 use Rattle.rules.specs.declared.Done.{Done}
 use Rattle.number.specs.declared.Written.{Written}
 use Rattle.number.specs.declared.Written.the-variants.{Next}
 use Rattle.opening.specs.Opening.{openedOf}
-use Rattle.printed.specs.Printed.{Page, answerLine, page, placedNext, putLines, putNext}
+use Rattle.printed.specs.Printed.{Page, page, putLines}
 use Rattle.run.proofs.Lines.{from-line}
-use Rattle.run.proofs.Page.{put-more}
+use Rattle.run.proofs.Page.{put-append}
 use Rattle.run.specs.Buffer.{Ends}
+use Rattle.run.specs.Going.{Begins, Goes, asks, endedOf, ifOn}
 use Rattle.run.specs.Report.{runOf, toldLine}
-use Rattle.run.specs.Run.{Run, goesOnAfter, ran}
-use Rattle.run.specs.declared.Ended.{Ended}
-use Rattle.schedule.specs.Schedule.{linesFrom, scheduleOf, stepIn, stepsAt, weightsAt}
+use Rattle.run.specs.Run.{Run, Told, goesOnAfter, ran, stops, tells}
+use Rattle.run.specs.declared.Ahead.{Ahead}
+use Rattle.run.specs.declared.Going.{Going}
+use Rattle.schedule.specs.Schedule.{also, linesFrom, scheduleOf, stepIn, stepsAt, weightsAt}
+use Rattle.schedule.specs.declared.Section.{Section}
 use Rattle.schedule.specs.declared.Sections.{Sections}
 use Rattle.state.specs.declared.Machine.{Machine}
 use Rattle.step.specs.Answer.{numberOf}
 use Rattle.step.specs.declared.Step.{Step}
-use Rattle.writes.specs.Records.{noWrite, records}
+use Rattle.writes.specs.Records.{noWrite}
 use Rattle.writes.specs.declared.Write.{Write}
 
--- a run that begins with so many steps taken and a buffer already filled so far, and where it ends
-pub record On (x : Run) (b : Page) (n : ℕ) (e : Ended) (after : List ℕ) (ws : List Write) : Type 0 where
-  pub machine : e .machine ≡ x .machine
-  pub taken : e .taken ≡ n + length (x .answers)
-  pub refused : e .refused ≡ x .refused
-  pub answers : page (e .upto) after ≡ putLines b (map toldLine (x .answers))
-  pub writes : ws ≡ x .writes
+-- The lines of a text.
 
--- a run that is left decides another
-abbrev pub Decides : Run → Page → ℕ → Run → Page → ℕ → Type 0
-Decides x b n y c k = (e : Ended) (after : List ℕ) (ws : List Write) → On x b n e after ws → On y c k e after ws
+-- nothing is asked, and no line is left
+pub asks-none : (text : List ℕ) (a : Ahead) (s : Section) → a .on ≡ false → linesFrom (s .count) StepDue text (s .at) ≡ [] → asks text a ≡ stepsAt text s
+asks-none text a s e f = rw (e, f)
 
-abbrev pub endedAt : Machine → ℕ → ℕ → Written → Ended
-endedAt m n k u = record { machine = m; taken = n; refused = k; upto = u }
+-- a line that was read, and the step in it
+pub next-step : (text : List ℕ) (left at p : ℕ) (y : Line) (s : Step) → 0 < left → readLine StepDue text at ≡ Took y p → s ≡ stepIn y
+    → s ∷ stepsAt text (record { count = left - 1; at = p }) ≡ stepsAt text (record { count = left; at = at })
+next-step text left at p y s h e a = rw (from-line left StepDue text at (Took y p) h e, a)
+
+length-also : (r : LineRead) (f : ℕ → List Line) (n : ℕ) → ((p : ℕ) → length (map stepIn (f p)) ≤ n) → length (map stepIn (also r f)) ≤ suc n
+length-also (Took y p) f n h = omega (arith, h p)
+length-also (Fault r) f n h = omega arith
+
+-- a section asks no more steps than it has lines
+pub few-steps : (text : List ℕ) (n at : ℕ) → length (stepsAt text (record { count = n; at = at })) ≤ n
+unfolding linesFrom
+few-steps text zero at = omega arith
+few-steps text (suc n) at = length-also (readLine StepDue text at) _ n (λ p. few-steps text n p)
+
+-- The run.
+
+-- what is left of a run on its way
+abbrev leftIf : Bool → Run → Run → Run
+leftIf true x y = x
+leftIf false x y = y
+
+abbrev pub leftOf : List ℕ → Going → List Write → Run
+leftOf text g ws = leftIf (g .ahead .on) (ran (g .machine) ws (asks text (g .ahead))) (stops (g .machine) ws (g .refused))
+
+-- a run that is left, with so many steps taken and a buffer filled so far, comes to a whole run from the buffer's first byte on
+pub record Comes (y : Run) (b : Page) (n : ℕ) (x : Run) (before : List ℕ) : Type 0 where
+  pub machine : y .machine ≡ x .machine
+  pub taken : n + length (y .answers) ≡ length (x .answers)
+  pub refused : y .refused ≡ x .refused
+  pub answers : putLines b (map toldLine (y .answers)) ≡ putLines (page (Next 0) before) (map toldLine (x .answers))
+  pub writes : y .writes ≡ x .writes
+
+-- on its way: what is left comes to the whole, and the steps can be counted
+pub record Way (text : List ℕ) (g : Going) (ws : List Write) (out : List ℕ) (x : Run) (before : List ℕ) : Type 0 where
+  pub comes : Comes (leftOf text g ws) (page (g .upto) out) (g .taken) x before
+  pub few : g .taken + length (asks text (g .ahead)) < 2 ^ 32
+
+told : {t : Told} {y x : Run} {b : Page} {n : ℕ} {before : List ℕ} → Comes (tells t y) b n x before
+    → Comes y (putLines b (toldLine t ∷ [])) (n + 1) x before
+told {t} {y} {b = b} o =
+    record {
+      machine = o .machine;
+      taken = omega (arith, o .taken);
+      refused = o .refused;
+      answers = sym (put-append b (toldLine t ∷ []) (map toldLine (y .answers))) ∙ o .answers;
+      writes = o .writes;
+    }
+
+-- where nothing was refused, what is left are the steps ahead
+left-asked : (text : List ℕ) (g : Going) (ws : List Write) (b : Bool) → g .ahead .on ≡ b → g .refused ≡ 0
+    → leftOf text g ws ≡ ran (g .machine) ws (asks text (g .ahead))
+unfolding ran
+left-asked text g ws true e f = rw e
+left-asked text g ws false e f = rw (e, f)
+
+-- where nothing is ahead, none
+left-none : (text : List ℕ) (g : Going) (ws : List Write) → g .ahead .on ≡ false → leftOf text g ws ≡ stops (g .machine) ws (g .refused)
+left-none text g ws e = rw e
 
 stop-after : (k : ℕ) (x y : Run) → 0 < k → goesOnAfter k x y ≡ x
 stop-after zero x y h = absurd (omega arith)
 stop-after (suc k) x y h = refl
 
-module _ (m : Machine) (ws : List Write) (u : Written) (out : List ℕ) (n : ℕ) where
-  pub on-none : On (ran m ws []) (page u out) n (endedAt m n 0 u) out ws
-  unfolding ran putLines
-  on-none = record { machine = refl; taken = omega arith; refused = refl; answers = refl; writes = refl }
-
-  pub on-refused : (s : Step) (ss : List Step) → 0 < numberGiven m ws s
-      → On (ran m ws (s ∷ ss)) (page u out) n (endedAt m n (numberGiven m ws s) u) out ws
-  unfolding ran putLines
-  on-refused s ss h =
-      rw (stop-after (numberGiven m ws s) _ _ h)
-      (record { machine = refl; taken = omega arith; refused = refl; answers = refl; writes = refl })
-
-  pub on-taken : (s : Step) (ss : List Step) (w : Written) (l : List ℕ) → numberGiven m ws s ≡ 0
-      → let x = answerLine (s .thread) (stepOf m ws s .done .answer) in (w ≡ putNext out u x) × (l ≡ placedNext out u x)
-      → Decides (ran (stepOf m ws s .done .machine) (stepOf m ws s .writes) ss) (page w l) (n + 1) (ran m ws (s ∷ ss)) (page u out) n
+module _ (text : List ℕ) (g : Going) (ws : List Write) {d : Done} {ws' : List Write} (e : g .ahead .on ≡ true)
+    (o : outcome d ws' ≡ stepOf (g .machine) ws (g .ahead .step)) where
+  -- before a step that is taken: its answer, and the steps after it
+  left-taken : numberOf (d .answer) ≡ 0
+      → leftOf text g ws
+      ≡ tells (record { thread = g .ahead .step .thread; answer = d .answer }) (ran (d .machine) ws' (stepsAt text (g .ahead .rest)))
   unfolding ran
-  on-taken s ss w l z p e after vs o =
-      rw z
-      (record {
-        machine = o .machine;
-        taken = omega (arith, o .taken);
-        refused = o .refused;
-        answers = o .answers ∙ put-more out u _ _ p;
-        writes = o .writes;
-      })
+  left-taken z = rw (e, ← o, z)
 
--- a step over three lent lists
-pub over : {d : Done} {cs' ts' vs' : List ℕ} (m : Machine) (cs ts vs : List ℕ) (s : Step)
-    → after d cs' ts' vs' ≡ stepOver m cs ts vs s
-    → (d ≡ stepOf m (records cs ts vs) s .done) × (records cs' ts' vs' ≡ stepOf m (records cs ts vs) s .writes)
-over m cs ts vs s e = (
-  ap (λ (o : Over). o .done) e ∙ over-records m cs ts vs s .0,
-  ap (λ (o : Over). records (o .cells) (o .stamps) (o .values)) e ∙ over-records m cs ts vs s .1,
-)
+  -- before a step that is refused: nothing more
+  left-refused : 0 < numberOf (d .answer) → leftOf text g ws ≡ stops (g .machine) ws (numberOf (d .answer))
+  unfolding ran
+  left-refused z = rw (e, ← o) (stop-after (numberOf (d .answer)) _ _ z)
 
-ends : {x : Run} {b : List ℕ} {e : Ended} {after : List ℕ} {ws : List Write} → On x (page (Next 0) b) 0 e after ws → Ends x b e after ws
-ends o = record { machine = o .machine; taken = omega (arith, o .taken); refused = o .refused; answers = o .answers; writes = o .writes }
+  -- which gives back the same state and list
+  same : 0 < numberOf (d .answer) → (d .machine ≡ g .machine) × (ws' ≡ ws)
+  same z =
+      let k = refused-keeps (g .machine) ws (g .ahead .step) (rw (← o) z) in
+      (ap (λ (u : Outcome). u .done .machine) o ∙ k .0, ap (λ (u : Outcome). u .writes) o ∙ k .1)
 
--- in the midst of a run: what is left from a place of the text on decides the whole
-pub record Left (text : List ℕ) (left at : ℕ) (m : Machine) (ws : List Write) (u : Written) (out : List ℕ) (n : ℕ) (x : Run)
-    (before : List ℕ) : Type 0 where
-  pub decides : Decides (ran m ws (stepsAt text (record { count = left; at = at }))) (page u out) n x (page (Next 0) before) 0
+module _ {text : List ℕ} {x : Run} {before : List ℕ} where
+  pub way-begins : {s : Section} {m : Machine} {g : Going} {ws : List Write} → Begins text s m g → s .count < 2 ^ 32
+      → x ≡ ran m ws (stepsAt text s) → Way text g ws before x before
+  way-begins {s} {m} {g} {ws} o h e =
+      let all : leftOf text g ws ≡ x = left-asked text g ws (g .ahead .on) refl (o .refused) ∙ (λ i. ran (o .machine i) ws (o .ahead i)) ∙ sym e in
+      record {
+        comes =
+            record {
+              machine = ap (λ (r : Run). r .machine) all;
+              taken = rw (o .taken, all) (omega arith);
+              refused = ap (λ (r : Run). r .refused) all;
+              answers = rw (o .upto, all) refl;
+              writes = ap (λ (r : Run). r .writes) all;
+            };
+        few = rw (o .taken, o .ahead) (omega (arith, few-steps text (s .count) (s .at)));
+      }
 
-abbrev stepsLeft : List ℕ → ℕ → ℕ → List Step
-stepsLeft text left at = stepsAt text (record { count = left; at = at })
+  -- a step that is still ahead can be counted
+  pub way-counts : {g : Going} {ws : List Write} {out : List ℕ} → Way text g ws out x before → g .ahead .on ≡ true → g .taken + 1 < 2 ^ 32
+  way-counts {g} w e = let f = w .few in omega (arith, rw e at f)
 
--- no line is left
-pub left-none : {text : List ℕ} {left at : ℕ} {m : Machine} {ws : List Write} {u : Written} {out : List ℕ} {n : ℕ} {x : Run} {before : List ℕ}
-    → Left text left at m ws u out n x before → linesFrom left StepDue text at ≡ [] → Ends x before (endedAt m n 0 u) out ws
-left-none {m = m} {ws = ws} {u = u} {out = out} {n = n} l e = ends (l .decides _ _ _ (rw e (on-none m ws u out n)))
+  module _ {g r : Going} {d : Done} {ws ws' : List Write} {out out' : List ℕ} (w : Way text g ws out x before) (e : g .ahead .on ≡ true)
+      (o : outcome d ws' ≡ stepOf (g .machine) ws (g .ahead .step)) (h : Goes text g d out r out') where
+    -- the step that was asked is taken
+    way-taken : numberOf (d .answer) ≡ 0 → Way text r ws' out' x before × (length (asks text (r .ahead)) < length (asks text (g .ahead)))
+    way-taken z =
+        let q = h .goes z in
+        let is : leftOf text r ws' ≡ ran (d .machine) ws' (stepsAt text (g .ahead .rest))
+        = left-asked text r ws' (r .ahead .on) refl (h .refused ∙ z) ∙ (λ i. ran (h .machine i) ws' (q .0 i)) in (
+          record {
+            comes = rw (is, q .1, q .2) (told (rw (left-taken text g ws e o z) at (w .comes)));
+            few = rw (q .0, q .1) (omega (arith, rw e at (w .few)));
+          },
+          rw (q .0, e) (omega arith),
+        )
 
--- a line that was read, and the step in it
-pub next-step : (text : List ℕ) (left at p : ℕ) (y : Line) (s : Step) → 0 < left → readLine StepDue text at ≡ Took y p → s ≡ stepIn y
-    → stepsLeft text left at ≡ s ∷ stepsLeft text (left - 1) p
-next-step text left at p y s h e a = rw (from-line left StepDue text at (Took y p) h e, a)
+    -- it is refused
+    way-refused : 0 < numberOf (d .answer) → Way text r ws' out' x before × (length (asks text (r .ahead)) < length (asks text (g .ahead)))
+    way-refused z =
+        let q = h .stops z in
+        let is : leftOf text r ws' ≡ leftOf text g ws
+        = left-none text r ws' (q .0) ∙ (λ i. stops ((h .machine ∙ same text g ws e o z .0) i) (same text g ws e o z .1 i) (h .refused i)) ∙ sym (left-refused text g ws e o z) in (
+          record { comes = rw (is, q .1, q .2) (w .comes); few = rw (q .0, q .1) (omega (arith, w .few)) },
+          rw (q .0, e) (omega arith),
+        )
 
-module _ {text : List ℕ} {left at : ℕ} {m : Machine} {ws : List Write} {u : Written} {out : List ℕ} {n : ℕ} {x : Run} {before : List ℕ}
-    {s : Step} {d : Done} {ws' : List Write} (k : ℕ) where
-  -- the step is refused
-  pub left-refused : {ss : List Step} → Left text left at m ws u out n x before → stepsLeft text left at ≡ s ∷ ss
-      → (d ≡ stepOf m ws s .done) × (ws' ≡ stepOf m ws s .writes) → k ≡ numberOf (d .answer) → (k ≡ 0 → ⊥)
-      → Ends x before (endedAt m n k u) out ws'
-  left-refused {ss} l e o f h =
-      let g : k ≡ numberGiven m ws s = f ∙ ap (λ (d : Done). numberOf (d .answer)) (o .0) in
-      let z : 0 < numberGiven m ws s = omega arith in
-      ends (l .decides _ _ _ (rw (e, g, o .1, refused-keeps m ws s z .1) (on-refused m ws u out n s ss z)))
+    -- it is done: the run is on its way still, and fewer steps are ahead
+    pub way-goes : Way text r ws' out' x before × (length (asks text (r .ahead)) < length (asks text (g .ahead)))
+    way-goes = by-number (numberOf (d .answer)) refl
+      where
+        by-number : (k : ℕ) → numberOf (d .answer) ≡ k → Way text r ws' out' x before × (length (asks text (r .ahead)) < length (asks text (g .ahead)))
+        by-number zero z = way-taken z
+        by-number (suc k) z = way-refused (rw z (omega arith))
 
-  -- the step is taken
-  pub left-taken : {p : ℕ} {w : Written} {out' : List ℕ} → Left text left at m ws u out n x before
-      → stepsLeft text left at ≡ s ∷ stepsLeft text (left - 1) p
-      → (d ≡ stepOf m ws s .done) × (ws' ≡ stepOf m ws s .writes) → k ≡ numberOf (d .answer) → k ≡ 0
-      → (w ≡ putNext out u (answerLine (s .thread) (d .answer))) × (out' ≡ placedNext out u (answerLine (s .thread) (d .answer)))
-      → Left text (left - 1) p (d .machine) ws' w out' (n + 1) x before
-  left-taken {p} {w} {out'} l e o f h q =
-      let g : numberGiven m ws s ≡ 0 = sym (f ∙ ap (λ (d : Done). numberOf (d .answer)) (o .0)) ∙ h in
-      record { decides = λ t after vs j. l .decides t after vs (rw e (on-taken m ws u out n s (stepsLeft text (left - 1) p) w out' g (rw (o .0) at q) t after vs (rw (o .0, o .1) at j))) }
-
--- 1,024 records of nothing
-pub blank-records : (n : ℕ) → records (replicate n 0) (replicate n 0) (replicate n 0) ≡ replicate n noWrite
-unfolding records
-blank-records zero = refl
-blank-records (suc n) = ap (λ (ws : List Write). noWrite ∷ ws) (blank-records n)
+  -- no step is ahead
+  pub way-ends : {g : Going} {ws : List Write} {out : List ℕ} → Way text g ws out x before → g .ahead .on ≡ false → Ends x before (endedOf g ws) out
+  unfolding putLines
+  way-ends {g} {ws} w e =
+      let o = rw (left-none text g ws e) at (w .comes) in
+      record { machine = o .machine; taken = omega (arith, o .taken); refused = o .refused; answers = o .answers; writes = o .writes }
 
 -- the run that a text asks for
 pub run-is : (s : List ℕ) (x : Sections) {m : Machine}
     → m ≡ openedOf (x .threads) (x .slots) (weightsAt s (x .plain)) (weightsAt s (x .flag)) .machine
-    → ran m (records (replicate 1024 0) (replicate 1024 0) (replicate 1024 0)) (stepsAt s (x .steps)) ≡ runOf (scheduleOf s x)
+    → ran m (replicate 1024 noWrite) (stepsAt s (x .steps)) ≡ runOf (scheduleOf s x)
 unfolding runOf scheduleOf
-run-is s x e = rw (e, blank-records 1024)
+run-is s x e = rw e

@@ -16,7 +16,6 @@ use Rattle.run.specs.declared.Reported.{Reported}
 use Rattle.schedule.specs.Schedule.{reads, scheduleOf}
 use Rattle.schedule.specs.Sections.{judged}
 use Rattle.schedule.specs.declared.Sections.{Sections}
-use Rattle.writes.specs.declared.Write.{Write}
 use Rattle.schedule.specs.declared.Judged.the-variants as judged-as
 use Rattle.printed.specs.declared.Word.the-variants as word
 
@@ -33,20 +32,20 @@ unfolding reported reads
 taken-report s x e o = rw e o
 
 -- the lines of a run: its answers, its queue, its refusal
-pub run-report : (r : Run) (b : List ℕ) {e : Ended} {l m k : List ℕ} {ws : List Write} {q u : Written} {p : Printed}
-    → Ends r b e l ws → page q m ≡ putLines (page (e .upto) l) (queueLines (e .machine) ws)
+pub run-report : (r : Run) (b : List ℕ) {e : Ended} {l m k : List ℕ} {q u : Written} {p : Printed}
+    → Ends r b e l → page q m ≡ putLines (page (e .upto) l) (queueLines (e .machine) (e .writes))
     → page u k ≡ putLines (page q m) (refusedLines (e .taken) (e .refused)) → p ≡ heading word.Answers (e .taken)
     → Reports (runLines r) b (record { first = p; upto = u }) k
 unfolding runLines
-run-report r b {e} {l} {ws = ws} o f g h =
+run-report r b {e} {l} o f g h =
     let start = page (Next 0) b in
     let told = map toldLine (r .answers) in
     record {
       first = h ∙ ap (heading word.Answers) (o .taken);
       rest =
           g
-          ∙ ap (λ (a : Page). putLines a (refusedLines (e .taken) (e .refused))) (f ∙ ap (λ (a : Page). putLines a (queueLines (e .machine) ws)) (o .answers))
-          ∙ sym (put-append (putLines start told) (queueLines (e .machine) ws) (refusedLines (e .taken) (e .refused)))
+          ∙ ap (λ (a : Page). putLines a (refusedLines (e .taken) (e .refused))) (f ∙ ap (λ (a : Page). putLines a (queueLines (e .machine) (e .writes))) (o .answers))
+          ∙ sym (put-append (putLines start told) (queueLines (e .machine) (e .writes)) (refusedLines (e .taken) (e .refused)))
           ∙ sym (put-append start told _)
           ∙ rw (o .machine, o .taken, o .refused, o .writes);
     }

@@ -1,4 +1,5 @@
 pub mod Run
 pub mod Report
 pub mod Buffer
+pub mod Going
 pub mod Promise

@@ -7,6 +7,7 @@ use number::Written;
 use printed::Field;
 use printed::Printed;
 use printed::Word;
+use rules::Done;
 use schedule::Judged;
 use schedule::Section;
 use schedule::Sections;
@@ -14,24 +15,44 @@ use state::Machine;
 use step::Answer;
 use step::Step;
 use step::Verb;
+use writes::Write;
 ghost use mathlib.Core.Path.{_≡_};
-ghost use Prim.Native.Nat.{_+_, _-_, _^_, _≤_};
-ghost use lib.ListN.{length, take};
+ghost use Prim.Native.Nat.{_+_, _-_, _^_, _<_, _≤_};
+ghost use lib.ListN.{length, replicate, take};
+ghost use mathlib.Core.Bool.{false};
 ghost use Rattle.number.specs.Buffer.{Wrote};
 ghost use Rattle.number.specs.declared.Written.the-variants.{Next};
 ghost use Rattle.opening.specs.Opening.{openedOf};
 ghost use Rattle.printed.specs.Printed.{page, putLines};
 ghost use Rattle.schedule.specs.Schedule.{weightIn, stepIn, weightsAt, stepsAt, scheduleOf};
 ghost use Rattle.step.specs.Answer.{numberOf};
-ghost use Rattle.writes.specs.Records.{records};
+ghost use Rattle.writes.specs.Records.{noWrite};
 ghost use Rattle.run.specs.Run.{ran};
 ghost use Rattle.run.specs.Report.{heading, textLine, rankLines, queueLines, refusedLines, runLines, runOf, reported};
 ghost use Rattle.run.specs.Buffer.{Ends, Reports};
+ghost use Rattle.run.specs.Going.{asks, endedOf, Begins, Goes};
 
-// A run that came to its end: the state, how many steps were taken, the number that a step was refused by or 0, and the place after the
-// answers' lines.
+// A run that came to its end: the state, how many steps were taken, the number that a step was refused by or 0, the place after the
+// answers' lines, and the list.
 pub struct Ended {
     pub machine: Machine,
+    pub taken: u32,
+    pub refused: u32,
+    pub upto: Written,
+    pub writes: [Write; 1024],
+}
+
+// What the text of a run asks next: whether a step, the step, and the lines after it.
+pub struct Ahead {
+    pub on: bool,
+    pub step: Step,
+    pub rest: Section,
+}
+
+// A run on its way.
+pub struct Going {
+    pub machine: Machine,
+    pub ahead: Ahead,
     pub taken: u32,
     pub refused: u32,
     pub upto: Written,
@@ -134,60 +155,128 @@ fn open_text(text: &[u8], s: Sections) -> Machine
     open_rooms(s.threads, s.slots, cells, n, flags, f)
 }
 
-// The steps of a section, run: the line of each taken step is put into the buffer.
-fn run_steps(
-    text: &[u8],
-    s: Section,
-    first: Machine,
-    cells: &mut [u32],
-    stamps: &mut [u32],
-    values: &mut [u32],
-    out: &mut [u8],
-) -> Ended
-    ensures { λ r. ⌜ Ends (ran first (records (now (cells .entry)) (now (stamps .entry)) (now (values .entry))) (stepsAt (now (text .entry)) s)) (now (out .entry)) r (now (out .exit)) (records (now (cells .exit)) (now (stamps .exit)) (now (values .exit))) ⌝ }
+// Nothing more is asked.
+fn nothing_ahead(rest: Section) -> Ahead
+    ensures { λ r. ⌜ r .on ≡ false ⌝ }
 {
-    let mut m = first;
-    let mut upto = Written::Next(0);
-    let mut taken: u32 = 0;
-    let mut at = s.at;
-    let mut left = s.count;
-    while 0 < left {
-        match line::read_line(text, at, Due::StepDue) {
-            LineRead::Took(x, p) => {
-                let asked = step_in(x);
-                let done = machine::step(m, cells, stamps, values, asked);
-                let a = done.answer;
-                let n = refusal_in(a);
-                if n != 0 {
-                    return Ended {
-                        machine: m,
-                        taken,
-                        refused: n,
-                        upto,
-                    };
-                }
-                m = done.machine;
-                upto = printed::put_next(out, upto, printed::answer_line(asked.thread, a));
-                taken = taken + 1;
-                at = p;
-            }
-            LineRead::Fault(_) => {
-                return Ended {
-                    machine: m,
-                    taken,
-                    refused: 0,
-                    upto,
-                };
+    let step = Step {
+        thread: 0,
+        verb: Verb::Go,
+    };
+    Ahead {
+        on: false,
+        step,
+        rest,
+    }
+}
+
+// The next line of a section, where one is left and reads.
+fn next_step(text: &[u8], s: Section) -> Ahead
+    ensures { λ r. ⌜ asks (now (text .entry)) r ≡ stepsAt (now (text .entry)) s ⌝ }
+{
+    let left = s.count;
+    if left == 0 {
+        return nothing_ahead(s);
+    }
+    match line::read_line(text, s.at, Due::StepDue) {
+        LineRead::Took(x, p) => {
+            let step = step_in(x);
+            let rest = Section {
+                count: left - 1,
+                at: p,
+            };
+            Ahead {
+                on: true,
+                step,
+                rest,
             }
         }
-        left = left - 1;
+        LineRead::Fault(_) => nothing_ahead(s),
     }
-    Ended {
-        machine: m,
-        taken,
+}
+
+fn begin(text: &[u8], s: Section, first: Machine) -> Going
+    ensures { λ r. ⌜ Begins (now (text .entry)) s first r ⌝ }
+{
+    let ahead = next_step(text, s);
+    let upto = Written::Next(0);
+    Going {
+        machine: first,
+        ahead,
+        taken: 0,
         refused: 0,
         upto,
     }
+}
+
+// After a step: the line of one that was taken is put into the buffer, and the next is asked; one that was refused is the last.
+fn go_on(text: &[u8], out: &mut [u8], g: Going, done: Done) -> Going
+    requires { ⌜ g .taken + 1 < 2 ^ 32 ⌝ }
+    ensures { λ r. ⌜ Goes (now (text .entry)) g done (now (out .entry)) r (now (out .exit)) ⌝ }
+{
+    let machine = done.machine;
+    let answer = done.answer;
+    let asked = g.ahead;
+    let upto = g.upto;
+    let step = asked.step;
+    let refused = refusal_in(answer);
+    if refused != 0 {
+        let ahead = nothing_ahead(asked.rest);
+        return Going {
+            machine,
+            ahead,
+            taken: g.taken,
+            refused,
+            upto,
+        };
+    }
+    let next = printed::put_next(out, upto, printed::answer_line(step.thread, answer));
+    let ahead = next_step(text, asked.rest);
+    Going {
+        machine,
+        ahead,
+        taken: g.taken + 1,
+        refused,
+        upto: next,
+    }
+}
+
+fn finish(g: Going, writes: [Write; 1024]) -> Ended
+    ensures { λ r. ⌜ r ≡ endedOf g writes ⌝ }
+{
+    let machine = g.machine;
+    let upto = g.upto;
+    Ended {
+        machine,
+        taken: g.taken,
+        refused: g.refused,
+        upto,
+        writes,
+    }
+}
+
+fn no_writes() -> [Write; 1024]
+    ensures { λ r. ⌜ r ≡ replicate 1024 noWrite ⌝ }
+{
+    let none = Write {
+        cell: 0,
+        stamp: 0,
+        value: 0,
+    };
+    [none; 1024]
+}
+
+// The steps of a section, run with 1,024 records lent: the line of each taken step is put into the buffer.
+fn run_steps(text: &[u8], s: Section, first: Machine, out: &mut [u8]) -> Ended
+    ensures { λ r. ⌜ Ends (ran first (replicate 1024 noWrite) (stepsAt (now (text .entry)) s)) (now (out .entry)) r (now (out .exit)) ⌝ }
+{
+    let mut ws = no_writes();
+    let mut g = begin(text, s, first);
+    while g.ahead.on {
+        let done = machine::step(g.machine, &mut ws, g.ahead.step);
+        g = go_on(text, out, g, done);
+    }
+    finish(g, ws)
 }
 
 // A word and a count.
@@ -219,17 +308,9 @@ fn ranks_between(tail: u32, head: u32) -> u32
 }
 
 // What the queue holds, a line for each rank from one on.
-fn put_ranks(
-    m: Machine,
-    cells: &[u32],
-    stamps: &[u32],
-    values: &[u32],
-    count: u32,
-    out: &mut [u8],
-    upto: Written,
-) -> Written
+fn put_ranks(m: Machine, ws: [Write; 1024], count: u32, out: &mut [u8], upto: Written) -> Written
     requires { ⌜ m .tail .value + count ≤ 2 ^ 32 ⌝ }
-    ensures { λ r. ⌜ page r (now (out .exit)) ≡ putLines (page upto (now (out .entry))) (rankLines m (records (now (cells .entry)) (now (stamps .entry)) (now (values .entry))) count (m .tail .value)) ⌝ }
+    ensures { λ r. ⌜ page r (now (out .exit)) ≡ putLines (page upto (now (out .entry))) (rankLines m ws count (m .tail .value)) ⌝ }
 {
     let tail = m.tail;
     let first = tail.value;
@@ -237,28 +318,21 @@ fn put_ranks(
     let mut left = count;
     while 0 < left {
         let k = first + (count - left);
-        let a = machine::content(m, cells, stamps, values, k);
+        let a = machine::content(m, ws, k);
         w = printed::put_next(out, w, printed::answer_line(k, a));
         left = left - 1;
     }
     w
 }
 
-fn put_queue(
-    m: Machine,
-    cells: &[u32],
-    stamps: &[u32],
-    values: &[u32],
-    out: &mut [u8],
-    upto: Written,
-) -> Written
-    ensures { λ r. ⌜ page r (now (out .exit)) ≡ putLines (page upto (now (out .entry))) (queueLines m (records (now (cells .entry)) (now (stamps .entry)) (now (values .entry)))) ⌝ }
+fn put_queue(m: Machine, ws: [Write; 1024], out: &mut [u8], upto: Written) -> Written
+    ensures { λ r. ⌜ page r (now (out .exit)) ≡ putLines (page upto (now (out .entry))) (queueLines m ws) ⌝ }
 {
     let head = m.head;
     let tail = m.tail;
     let count = ranks_between(tail.value, head.value);
     let w = printed::put_next(out, upto, count_line(Word::Queue, count));
-    put_ranks(m, cells, stamps, values, count, out, w)
+    put_ranks(m, ws, count, out, w)
 }
 
 fn put_refused(out: &mut [u8], upto: Written, taken: u32, refused: u32) -> Written
@@ -281,18 +355,13 @@ fn report_run(text: &[u8], s: Sections, out: &mut [u8]) -> Reported
     requires { ⌜ (length (weightsAt (now text) (s .plain)) ≤ 16) × (length (weightsAt (now text) (s .flag)) ≤ 8) ⌝ }
     ensures { λ r. ⌜ Reports (runLines (runOf (scheduleOf (now (text .entry)) s))) (now (out .entry)) r (now (out .exit)) ⌝ }
 {
-    let mut room_a = [0u32; 1024];
-    let mut room_b = [0u32; 1024];
-    let mut room_c = [0u32; 1024];
-    let cells: &mut [u32] = &mut room_a;
-    let stamps: &mut [u32] = &mut room_b;
-    let values: &mut [u32] = &mut room_c;
     let steps = s.steps;
     let opened = open_text(text, s);
-    let ended = run_steps(text, steps, opened, cells, stamps, values, out);
+    let ended = run_steps(text, steps, opened, out);
     let m = ended.machine;
+    let ws = ended.writes;
     let answered = ended.upto;
-    let queued = put_queue(m, cells, stamps, values, out, answered);
+    let queued = put_queue(m, ws, out, answered);
     let upto = put_refused(out, queued, ended.taken, ended.refused);
     let first = count_line(Word::Answers, ended.taken);
     Reported { first, upto }

@@ -9,6 +9,7 @@ use contract.Monad.{Fun}
 use Rattle.laws.proofs.Determined.{determined, determined-together, OneResult, OneResultOf}
 use Rattle.standing.proofs.in_shape.Reads as in-shape
 use Rattle.standing.proofs.sizes_stand.Reads as sizes-stand
+use Rattle.standing.proofs.name_in.Reads as name-in
 use Rattle.standing.proofs.parts_stand.Reads as parts-stand
 use Rattle.standing.proofs.stands_by.Reads as stands-by
 use Rattle.standing.proofs.state_stands as state-stands
@@ -18,6 +19,9 @@ in-shape-determined κs a x y e f = determined
 
 pub sizes-stand-determined : OneResult sizes-stand.Post
 sizes-stand-determined κs a x y e f = determined
+
+pub name-in-determined : OneResult name-in.Post
+name-in-determined κs a x y e f = determined
 
 pub parts-stand-determined : OneResult parts-stand.Post
 parts-stand-determined κs a x y e f = determined

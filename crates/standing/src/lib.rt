@@ -137,7 +137,7 @@ pub enum Family {
     Statuses,
 }
 
-fn name_in(family: Family, i: usize) -> Name
+pub fn name_in(family: Family, i: usize) -> Name
     ensures { λ r. ⌜ r ≡ nameIn family i ⌝ }
 {
     match family {

@@ -8,6 +8,8 @@ ghost use Rattle.writes.specs.Searched.{soughtOf, lookedAt, searched};
 use laws::both;
 use step::MOST;
 
+// One write of a plain cell. Callers in other languages lend the same, field after field.
+#[repr(C)]
 pub struct Write {
     pub cell: u32,
     pub stamp: u32,

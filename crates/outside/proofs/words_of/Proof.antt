@@ -10,8 +10,8 @@ use Rattle.outside.proofs.words_of.Tie as tie
 returns : tie.Need-returns
 unfolding wordsOf atomicAt
 returns c =
-    let s = c .before .write-statuses .ensures in
-    let f = c .before .before .before .before .write-flags .ensures in
+    let s = c .before .write-atomics2 .ensures in
+    let f = c .before .before .before .before .write-atomics .ensures in
     let b = c .before .before .before .before .before .before .before in
     let t = b .write-atomic2 .ensures in
     let h = b .before .before .before .write-atomic .ensures in

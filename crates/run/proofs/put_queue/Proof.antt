@@ -30,7 +30,7 @@ returns c =
     let at-put-next = c .before .before .before .before .before .before in
     let at-count-line = at-put-next .before in
     let at-ranks-between = at-count-line .before .before in
-    let at-start = at-ranks-between .before .before .before .before .before .before .before in
+    let at-start = at-ranks-between .before .before .before .before in
     c .before .before .put-ranks .ensures ∙ put-more (now (at-start .args .out)) (at-start .args .upto) (heading Queue _) _ (rw (at-count-line .count-line .ensures) at (at-put-next .put-next .ensures)) ∙ rw (at-ranks-between .ranks-between .ensures .0)
 
 pub put-queue-spec : {M : Type 1} → statement M

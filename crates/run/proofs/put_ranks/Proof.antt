@@ -6,15 +6,14 @@ use native.Mathlib.Omega.{arith}
 use Rattle.printed.specs.Printed.{page, putLines}
 use Rattle.run.proofs.Page.{rank-end, ranks-at, ranks-next}
 use Rattle.run.specs.Report.{rankLines}
-use Rattle.writes.specs.Records.{records}
 use Rattle.run.proofs.put_ranks.Statement.{statement}
 use Rattle.run.proofs.put_ranks.Tie as tie
 
 abbrev Inv-loop : tie.InvT-loop
-Inv-loop m cells stamps values count out₀ first w₀ left₀ out w left = (putLines (page w out) (rankLines m (records cells stamps values) left (first + (count - left))) ≡ putLines (page w₀ out₀) (rankLines m (records cells stamps values) count first)) × (left ≤ count) × (length out ≡ length out₀)
+Inv-loop m ws count out₀ first w₀ left₀ out w left = (putLines (page w out) (rankLines m ws left (first + (count - left))) ≡ putLines (page w₀ out₀) (rankLines m ws count first)) × (left ≤ count) × (length out ≡ length out₀)
 
 abbrev μ-loop : tie.MeasureT-loop
-μ-loop m cells stamps values count out₀ first w₀ left₀ out w left = left
+μ-loop m ws count out₀ first w₀ left₀ out w left = left
 
 loop-holds : tie.Need-loop-holds Inv-loop μ-loop
 loop-holds c = (ranks-at _ _ _ _ _ _ (omega arith), omega arith, refl)
@@ -46,7 +45,7 @@ loop-again c =
     let at-content = at-answer-line .before .before in
     let at-test = at-content .before in
     let at-loop = at-test .before in
-    let at-start = at-loop .before .before .before .before .before .before in
+    let at-start = at-loop .before .before .before in
     (ranks-next _ _ (at-start .args .m .tail .value) (at-start .args .count) (at-loop .loop .left) (at-loop .loop .w) (at-loop .loop .out) (at-test .loop-test .taken) (at-loop .loop .inv .1) (rw (at-answer-line .answer-line .ensures, at-content .content .ensures) at (c .before .before .put-next .ensures)) ∙ at-loop .loop .inv .0, omega arith, search needs)
 
 same-length : tie.Need-same-length Inv-loop μ-loop

@@ -7,15 +7,6 @@ use Rattle.schedule.specs.Schedule.{scheduleOf}
 use Rattle.run.proofs.report_run.Statement.{statement}
 use Rattle.run.proofs.report_run.Tie as tie
 
-slice-aggregate-cells : tie.Need-slice-aggregate-cells
-slice-aggregate-cells c = search needs
-
-slice-aggregate-stamps : tie.Need-slice-aggregate-stamps
-slice-aggregate-stamps c = search needs
-
-slice-aggregate-values : tie.Need-slice-aggregate-values
-slice-aggregate-values c = search needs
-
 open-text-requires : tie.Need-open-text-requires
 open-text-requires c κs = search needs
 
@@ -37,19 +28,16 @@ same-length c = search needs
 returns : tie.Need-returns
 returns c =
     let at-put-refused = c .before .before .before in
-    let at-put-queue = at-put-refused .before .before .before .before .before .before .before in
-    let at-run-steps = at-put-queue .before .before .before .before .before .before .before .before .before .before .before .before .before .before in
-    let at-open-text = at-run-steps .before .before .before .before .before in
-    let at-start = at-open-text .before .before .before .before .before .before .before in
+    let at-put-queue = at-put-refused .before .before .before .before in
+    let at-run-steps = at-put-queue .before .before .before .before .before .before in
+    let at-open-text = at-run-steps .before .before in
+    let at-start = at-open-text .before .before .before .before in
     let s = at-start .args in run-report (runOf (scheduleOf (now (s .text)) (s .s))) (now (s .out)) (rw (run-is (now (s .text)) (s .s) (at-open-text .open-text .ensures)) at (at-run-steps .run-steps .ensures)) (at-put-queue .put-queue .ensures) (at-put-refused .put-refused .ensures) (c .count-line .ensures)
 
 pub report-run-spec : {M : Type 1} → statement M
 report-run-spec =
     tie.close
     (tie.spec
-    slice-aggregate-cells
-    slice-aggregate-stamps
-    slice-aggregate-values
     open-text-requires
     run-steps-requires
     put-queue-requires
