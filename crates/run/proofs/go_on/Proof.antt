@@ -53,7 +53,8 @@ returns-2 c =
       goes = λ _. (
         c .before .next-step .ensures,
         refl,
-        put-one (now (at-start .args .out)) (at-start .args .g .upto) _ (rw (at-answer-line .answer-line .ensures) at (at-put-next .put-next .ensures)),
+        put-one (now (at-start .args .out)) (at-start .args .g .upto) _
+            (rw (at-answer-line .answer-line .ensures) at (at-put-next .put-next .ensures)),
       );
     }
 

@@ -39,14 +39,16 @@ returns-2 c =
     let at-read-line = at-x .before .before in
     let at-if1 = at-read-line .before in
     let at-start = at-if1 .before .before in
-    next-step (now (at-start .args .text)) (at-start .args .s .count) (at-start .args .s .at) _ _ _ (omega (arith, at-if1 .if1 .left)) (sym (at-read-line .read-line .ensures) ∙ at-x .x .given .1) (c .step-in .ensures)
+    next-step (now (at-start .args .text)) (at-start .args .s .count) (at-start .args .s .at) _ _ _ (omega (arith, at-if1 .if1 .left))
+    (sym (at-read-line .read-line .ensures) ∙ at-x .x .given .1) (c .step-in .ensures)
 
 returns-3 : tie.Need-returns-3
 returns-3 c =
     let at-read-line = c .before .before .before in
     let at-if1 = at-read-line .before in
     let at-start = at-if1 .before .before in
-    asks-none (now (at-start .args .text)) _ (at-start .args .s) (c .nothing-ahead2 .ensures) (from-line _ _ _ _ _ (omega (arith, at-if1 .if1 .left)) (sym (at-read-line .read-line .ensures) ∙ c .before .enum-told .given .1))
+    asks-none (now (at-start .args .text)) _ (at-start .args .s) (c .nothing-ahead2 .ensures)
+    (from-line _ _ _ _ _ (omega (arith, at-if1 .if1 .left)) (sym (at-read-line .read-line .ensures) ∙ c .before .enum-told .given .1))
 
 pub next-step-spec : {M : Type 1} → statement M
 next-step-spec =
