@@ -17,7 +17,7 @@ use Rattle.laws.proofs.Tests.{apart}
 use Rattle.laws.specs.Tests.{_and_, _or_}
 use Rattle.rules.specs.Step.{refusalOf, decidedOf, stepOf}
 use Rattle.standing.proofs.Bounds.{noted, sizes}
-use Rattle.standing.specs.Stands.{rankOf, sizesStand, partsStand, stands}
+use Rattle.standing.specs.Stands.{rankOf, partsStand, stands}
 use Rattle.state.specs.State.{place}
 use Rattle.state.specs.declared.Machine.{Machine}
 use Rattle.step.specs.declared.Step.{Step}

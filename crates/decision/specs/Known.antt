@@ -1,12 +1,13 @@
 -- A step of a state and a list that are known to stand, as they are after a step that was taken: 14 is not judged anew. Assumes nothing.
 use mathlib.Core.Bool.{Bool, true, false}
 use mathlib.Core.List.{List}
+use mathlib.Core.Path.{_≡_}
 use lib.ListN.{length}
 use Rattle.decision.specs.Decision.{rankFits}
 use Rattle.laws.specs.Tests.{_and_}
 use Rattle.refusal.specs.Refusal.{refusalBy}
 use Rattle.rules.specs.Access.{foundBy}
-use Rattle.rules.specs.Step.{Outcome, outcome, asked, decidedBy}
+use Rattle.rules.specs.Step.{Outcome, outcome, asked, decidedBy, stepOf}
 use Rattle.rules.specs.declared.Decided.{Decided}
 use Rattle.standing.specs.Stands.{sizesStand, stands}
 use Rattle.state.specs.declared.Machine.{Machine}
@@ -25,6 +26,13 @@ decidedWith b m ws s = decidedBy (refusalBy b m (length ws) s (asked m s) (found
 abbrev pub leftBy : Decided → Machine → List Write → Outcome
 leftBy d m ws = outcome (d .done) (recorded (d .wrote) (m .held) ws)
 
--- the step; where nothing is known, it is `stepOf`
+-- the step
 unfoldable pub stepBy : Bool → Machine → List Write → Step → Outcome
 stepBy known m ws s = leftBy (decidedWith (judgedBy known m ws s) m ws s) m ws
+
+-- what is promised: where nothing is known the step is `stepOf`, and so it is where the state and the list stand
+abbrev pub StepAnew : Type 0
+StepAnew = (m : Machine) (ws : List Write) (s : Step) → stepBy false m ws s ≡ stepOf m ws s
+
+abbrev pub StepKnown : Type 0
+StepKnown = (m : Machine) (ws : List Write) (s : Step) → stands m ws ≡ true → stepBy true m ws s ≡ stepOf m ws s

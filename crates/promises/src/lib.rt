@@ -5,6 +5,7 @@ ghost use Rattle.texts.specs.Promise.{LineReadBack, LineOnlyText, LineOneText};
 ghost use Rattle.texts.specs.Promise.{ScheduleReadBack, ScheduleOnlyText, LineNumbered, JudgedNumbered};
 ghost use Rattle.cases.specs.Table.{StarredHold};
 ghost use Rattle.rules.specs.Kept.{Numbered, RefusedKeeps, TakenCounts, StandingKept, FreshStands, FreshWhole, WholeKept, RefusedFalls, RoomKept};
+ghost use Rattle.decision.specs.Known.{StepAnew, StepKnown};
 ghost use Rattle.published.specs.Follows.{TakenFollows, AllowedTaken, OneEvent, DueByCode};
 ghost use Rattle.rules.specs.Queue.{QueueHolds};
 ghost use Rattle.rules.specs.Reached.{ReachedHolds};
@@ -55,6 +56,11 @@ pub fn standing_is_kept()
 // Room that a machine lacks is changed by no step; the lists that stand for arrays stay as long as the arrays.
 pub fn room_is_kept()
     ensures { λ r. ⌜ RoomKept × FreshWhole × WholeKept ⌝ }
+{}
+
+// A run need not judge its state anew at each step: of a state that stands, the step is the same.
+pub fn states_are_judged_once()
+    ensures { λ r. ⌜ StepAnew × StepKnown ⌝ }
 {}
 
 // A step is taken exactly when it is admitted and the published rules allow it, and it does what the rule says. The line that is due at a

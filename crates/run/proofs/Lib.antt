@@ -1,6 +1,7 @@
 pub mod Lines
 pub mod Page
 pub mod Runs
+pub mod Turns
 pub mod Taken
 pub mod Whole
 pub mod Answers

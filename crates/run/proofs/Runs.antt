@@ -1,4 +1,4 @@
--- A run, one step at a time: what is left of it comes to the whole. Assumes nothing.
+-- A run on its way, one step at a time: what is left of it comes to the whole. Assumes nothing.
 use Prim.Native.Nat.{_+_, _-_, _<_, _≤_, _^_, suc, zero, ℕ}
 use lib.ListN.{length, replicate}
 use mathlib.Core.Bool.{Bool, true, false, false≢true}
@@ -7,24 +7,23 @@ use mathlib.Core.Path.{_∙_, _≡_, ap, refl, sym}
 use native.Mathlib.Omega.{arith}
 use Rattle.form.specs.declared.Due.the-variants.{StepDue}
 use Rattle.form.specs.declared.Line.{Line}
+use Rattle.decision.proofs.Known.{as-known}
+use Rattle.decision.specs.Known.{stepBy}
+use Rattle.refusal.proofs.Passed.{passed}
+use Rattle.rules.proofs.Kept.{standing-kept}
 use Rattle.rules.proofs.Refused.{numbered, refused-keeps}
 use Rattle.line.specs.Row.{readLine}
 use Rattle.line.specs.declared.LineRead.{LineRead}
 use Rattle.line.specs.declared.LineRead.the-variants.{Fault, Took}
 use Rattle.rules.specs.Step.{Outcome, outcome, stepOf, refusalOf}
 use Rattle.rules.specs.declared.Done.{Done}
-use Rattle.number.specs.declared.Written.{Written}
 use Rattle.number.specs.declared.Written.the-variants.{Next}
 use Rattle.opening.specs.Opening.{openedOf}
 use Rattle.printed.specs.Printed.{Page, page, putLines}
-use Rattle.decision.proofs.Known.{as-known}
-use Rattle.decision.specs.Known.{stepBy}
-use Rattle.refusal.proofs.Passed.{passed}
-use Rattle.rules.proofs.Kept.{standing-kept}
 use Rattle.run.proofs.Lines.{from-line}
 use Rattle.run.proofs.Page.{put-append}
 use Rattle.run.specs.Buffer.{Ends}
-use Rattle.run.specs.Going.{Begins, Goes, asks, endedOf, ifOn}
+use Rattle.run.specs.Going.{Begins, Goes, asks, endedOf}
 use Rattle.run.specs.Report.{runOf, toldLine}
 use Rattle.run.specs.Run.{Run, Told, goesOnAfter, ran, stops, tells}
 use Rattle.run.specs.declared.Ahead.{Ahead}
@@ -42,7 +41,8 @@ use Rattle.writes.specs.declared.Write.{Write}
 -- The lines of a text.
 
 -- nothing is asked, and no line is left
-pub asks-none : (text : List ℕ) (a : Ahead) (s : Section) → a .on ≡ false → linesFrom (s .count) StepDue text (s .at) ≡ [] → asks text a ≡ stepsAt text s
+pub asks-none : (text : List ℕ) (a : Ahead) (s : Section) → a .on ≡ false → linesFrom (s .count) StepDue text (s .at) ≡ []
+    → asks text a ≡ stepsAt text s
 asks-none text a s e f = rw (e, f)
 
 -- a line that was read, and the step in it
@@ -55,7 +55,7 @@ length-also (Took y p) f n h = omega (arith, h p)
 length-also (Fault r) f n h = omega arith
 
 -- a section asks no more steps than it has lines
-pub few-steps : (text : List ℕ) (n at : ℕ) → length (stepsAt text (record { count = n; at = at })) ≤ n
+few-steps : (text : List ℕ) (n at : ℕ) → length (stepsAt text (record { count = n; at = at })) ≤ n
 unfolding linesFrom
 few-steps text zero at = omega arith
 few-steps text (suc n) at = length-also (readLine StepDue text at) _ n (λ p. few-steps text n p)
@@ -67,23 +67,28 @@ abbrev leftIf : Bool → Run → Run → Run
 leftIf true x y = x
 leftIf false x y = y
 
-abbrev pub leftOf : List ℕ → Going → List Write → Run
+abbrev leftOf : List ℕ → Going → List Write → Run
 leftOf text g ws = leftIf (g .ahead .on) (ran (g .machine) ws (asks text (g .ahead))) (stops (g .machine) ws (g .refused))
 
 -- a run that is left, with so many steps taken and a buffer filled so far, comes to a whole run from the buffer's first byte on
-pub record Comes (y : Run) (b : Page) (n : ℕ) (x : Run) (before : List ℕ) : Type 0 where
-  pub machine : y .machine ≡ x .machine
-  pub taken : n + length (y .answers) ≡ length (x .answers)
-  pub refused : y .refused ≡ x .refused
-  pub answers : putLines b (map toldLine (y .answers)) ≡ putLines (page (Next 0) before) (map toldLine (x .answers))
-  pub writes : y .writes ≡ x .writes
+record Comes (y : Run) (b : Page) (n : ℕ) (x : Run) (before : List ℕ) : Type 0 where
+  machine : y .machine ≡ x .machine
+  taken : n + length (y .answers) ≡ length (x .answers)
+  refused : y .refused ≡ x .refused
+  answers : putLines b (map toldLine (y .answers)) ≡ putLines (page (Next 0) before) (map toldLine (x .answers))
+  writes : y .writes ≡ x .writes
 
 -- on its way: what is left comes to the whole, and the steps can be counted
 pub record Way (text : List ℕ) (g : Going) (ws : List Write) (out : List ℕ) (x : Run) (before : List ℕ) : Type 0 where
-  pub comes : Comes (leftOf text g ws) (page (g .upto) out) (g .taken) x before
-  pub few : g .taken + length (asks text (g .ahead)) < 2 ^ 32
-  pub stood : g .ahead .on ≡ true → g .ahead .asked .known ≡ true → stands (g .machine) ws ≡ true
+  comes : Comes (leftOf text g ws) (page (g .upto) out) (g .taken) x before
+  few : g .taken + length (asks text (g .ahead)) < 2 ^ 32
+  stood : g .ahead .on ≡ true → g .ahead .asked .known ≡ true → stands (g .machine) ws ≡ true
 
+-- on its way still, with fewer steps ahead than before
+abbrev Nearer : List ℕ → Going → Going → List Write → List ℕ → Run → List ℕ → Type 0
+Nearer text g r ws out x before = Way text r ws out x before × (length (asks text (r .ahead)) < length (asks text (g .ahead)))
+
+-- one answer more is told
 told : {t : Told} {y x : Run} {b : Page} {n : ℕ} {before : List ℕ} → Comes (tells t y) b n x before
     → Comes y (putLines b (toldLine t ∷ [])) (n + 1) x before
 told {t} {y} {b = b} o =
@@ -131,6 +136,7 @@ module _ (text : List ℕ) (g : Going) (ws : List Write) {d : Done} {ws' : List 
       (ap (λ (u : Outcome). u .done .machine) o ∙ k .0, ap (λ (u : Outcome). u .writes) o ∙ k .1)
 
 module _ {text : List ℕ} {x : Run} {before : List ℕ} where
+  -- before the first step
   pub way-begins : {s : Section} {m : Machine} {g : Going} {ws : List Write} → Begins text s m g → s .count < 2 ^ 32
       → x ≡ ran m ws (stepsAt text s) → Way text g ws before x before
   way-begins {s} {m} {g} {ws} o h e =
@@ -167,7 +173,7 @@ module _ {text : List ℕ} {x : Run} {before : List ℕ} where
         ∙ standing-kept (g .machine) ws s (p .stands)
 
     -- the step that was asked is taken
-    way-taken : numberOf (d .answer) ≡ 0 → Way text r ws' out' x before × (length (asks text (r .ahead)) < length (asks text (g .ahead)))
+    way-taken : numberOf (d .answer) ≡ 0 → Nearer text g r ws' out' x before
     way-taken z =
         let q = h .goes z in
         let is : leftOf text r ws' ≡ ran (d .machine) ws' (stepsAt text (g .ahead .rest))
@@ -181,11 +187,12 @@ module _ {text : List ℕ} {x : Run} {before : List ℕ} where
         )
 
     -- it is refused
-    way-refused : 0 < numberOf (d .answer) → Way text r ws' out' x before × (length (asks text (r .ahead)) < length (asks text (g .ahead)))
+    way-refused : 0 < numberOf (d .answer) → Nearer text g r ws' out' x before
     way-refused z =
         let q = h .stops z in
+        let k = same text g ws e o z in
         let is : leftOf text r ws' ≡ leftOf text g ws
-        = left-none text r ws' (q .0) ∙ (λ i. stops ((h .machine ∙ same text g ws e o z .0) i) (same text g ws e o z .1 i) (h .refused i)) ∙ sym (left-refused text g ws e o z) in (
+        = left-none text r ws' (q .0) ∙ (λ i. stops ((h .machine ∙ k .0) i) (k .1 i) (h .refused i)) ∙ sym (left-refused text g ws e o z) in (
           record {
             comes = rw (is, q .1, q .2) (w .comes);
             few = rw (q .0, q .1) (omega (arith, w .few));
@@ -194,11 +201,11 @@ module _ {text : List ℕ} {x : Run} {before : List ℕ} where
           rw (q .0, e) (omega arith),
         )
 
-    -- it is done: the run is on its way still, and fewer steps are ahead
-    pub way-goes : Way text r ws' out' x before × (length (asks text (r .ahead)) < length (asks text (g .ahead)))
+    -- it is done
+    pub way-goes : Nearer text g r ws' out' x before
     way-goes = by-number (numberOf (d .answer)) refl
       where
-        by-number : (k : ℕ) → numberOf (d .answer) ≡ k → Way text r ws' out' x before × (length (asks text (r .ahead)) < length (asks text (g .ahead)))
+        by-number : (k : ℕ) → numberOf (d .answer) ≡ k → Nearer text g r ws' out' x before
         by-number zero z = way-taken z
         by-number (suc k) z = way-refused (rw z (omega arith))
 

@@ -16,17 +16,28 @@ const USAGE: &str = "usage:
 const SEED: u64 = 1;
 const COUNT: u64 = 1_000_000;
 
+/// A write as the library is lent it.
+#[repr(C)]
+#[derive(Clone, Copy, Debug, PartialEq, Eq)]
+struct Record {
+    cell: u32,
+    stamp: u32,
+    value: u32,
+}
+
+impl From<&Write> for Record {
+    fn from(&Write { cell, stamp, value }: &Write) -> Record {
+        Record { cell, stamp, value }
+    }
+}
+
 #[link(name = "outside", kind = "static")]
 extern "C" {
     fn dentralupo_step(
         state: *mut u32,
         state_len: usize,
-        cells: *mut u32,
-        cells_len: usize,
-        stamps: *mut u32,
-        stamps_len: usize,
-        values: *mut u32,
-        values_len: usize,
+        writes: *mut Record,
+        writes_len: usize,
         asked: *const u32,
         asked_len: usize,
         answer: *mut u32,
@@ -34,25 +45,18 @@ extern "C" {
     );
 }
 
-/// What the library is lent: a state's image and the list as three lists.
+/// What the library is lent: a state's image and the list.
 #[derive(Clone, PartialEq, Eq)]
 struct Lent {
     state: [u32; WORDS],
-    cells: Vec<u32>,
-    stamps: Vec<u32>,
-    values: Vec<u32>,
+    list: Vec<Record>,
 }
 
 impl Lent {
     fn of_case(case: &Case) -> Lent {
         let mut state = [0; WORDS];
         state_words(&case.machine, &mut state);
-        Lent {
-            state,
-            cells: case.list.iter().map(|write| write.cell).collect(),
-            stamps: case.list.iter().map(|write| write.stamp).collect(),
-            values: case.list.iter().map(|write| write.value).collect(),
-        }
+        Lent { state, list: case.list.iter().map(Record::from).collect() }
     }
 
     /// Lets the library take one step.
@@ -66,12 +70,8 @@ impl Lent {
             dentralupo_step(
                 self.state.as_mut_ptr(),
                 self.state.len(),
-                self.cells.as_mut_ptr(),
-                self.cells.len(),
-                self.stamps.as_mut_ptr(),
-                self.stamps.len(),
-                self.values.as_mut_ptr(),
-                self.values.len(),
+                self.list.as_mut_ptr(),
+                self.list.len(),
                 asked.as_ptr(),
                 asked.len(),
                 answer.as_mut_ptr(),
@@ -81,16 +81,8 @@ impl Lent {
         answer
     }
 
-    fn record(&self, at: usize) -> Write {
-        Write { cell: self.cells[at], stamp: self.stamps[at], value: self.values[at] }
-    }
-
     fn agrees(&self, state: &[u32; WORDS], list: &[Write]) -> bool {
-        let records = self.cells.iter().zip(&self.stamps).zip(&self.values);
-        self.state == *state
-            && records
-                .zip(list)
-                .all(|(((&cell, &stamp), &value), &due)| Write { cell, stamp, value } == due)
+        self.state == *state && self.list.iter().copied().eq(list.iter().map(Record::from))
     }
 
     /// Each word that is not as the second program has it.
@@ -100,8 +92,8 @@ impl Lent {
             format!("word {at} ({}): due {due}, given {given}", word_name(at))
         });
         let records = (0..list.len())
-            .filter(|&at| self.record(at) != list[at])
-            .map(|at| format!("record {at}: due {:?}, given {:?}", list[at], self.record(at)));
+            .filter(|&at| self.list[at] != Record::from(&list[at]))
+            .map(|at| format!("record {at}: due {:?}, given {:?}", list[at], self.list[at]));
         words.chain(records).collect()
     }
 }

@@ -12,7 +12,9 @@ use Rattle.outside.proofs.write_atomics.Statement.{statement}
 use Rattle.outside.proofs.write_atomics.Tie as tie
 
 abbrev Inv-loop : tie.InvT-loop
-Inv-loop buf₀ p m family n q₀ i₀ buf q i = (i ≤ n) × (q ≡ p + 33 * i) × (length buf ≡ length buf₀) × Wrote buf₀ p (inTurn (λ j. atomicWords (atomicAt m (nameIn family j))) i) q buf
+Inv-loop buf₀ p m family n q₀ i₀ buf q i =
+    (i ≤ n) × (q ≡ p + 33 * i) × (length buf ≡ length buf₀)
+    × Wrote buf₀ p (inTurn (λ j. atomicWords (atomicAt m (nameIn family j))) i) q buf
 
 abbrev μ-loop : tie.MeasureT-loop
 μ-loop buf₀ p m family n q₀ i₀ buf q i = n - i
@@ -25,7 +27,8 @@ loop-again c =
     let w = c .before .before .write-atomic .ensures in
     let at-atomic-of = c .before .before .before .before in
     let l = at-atomic-of .before .before .before .loop in
-    (omega arith, omega (arith, w .1), search needs, turn _ (l .i) (l .inv .3) (w .0) (ap atomicWords (at-atomic-of .atomic-of .ensures ∙ ap (atomicAt _) (at-atomic-of .before .name-in .ensures))))
+    let e = ap atomicWords (at-atomic-of .atomic-of .ensures ∙ ap (atomicAt _) (at-atomic-of .before .name-in .ensures)) in
+    (omega arith, omega (arith, w .1), search needs, turn _ (l .i) (l .inv .3) (w .0) e)
 
 returns : tie.Need-returns Inv-loop μ-loop
 returns c =

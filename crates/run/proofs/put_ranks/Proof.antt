@@ -10,7 +10,8 @@ use Rattle.run.proofs.put_ranks.Statement.{statement}
 use Rattle.run.proofs.put_ranks.Tie as tie
 
 abbrev Inv-loop : tie.InvT-loop
-Inv-loop m ws count out₀ first w₀ left₀ out w left = (putLines (page w out) (rankLines m ws left (first + (count - left))) ≡ putLines (page w₀ out₀) (rankLines m ws count first)) × (left ≤ count) × (length out ≡ length out₀)
+Inv-loop m ws count out₀ first w₀ left₀ out w left =
+    (putLines (page w out) (rankLines m ws left (first + (count - left))) ≡ putLines (page w₀ out₀) (rankLines m ws count first)) × (left ≤ count) × (length out ≡ length out₀)
 
 abbrev μ-loop : tie.MeasureT-loop
 μ-loop m ws count out₀ first w₀ left₀ out w left = left
@@ -45,8 +46,13 @@ loop-again c =
     let at-content = at-answer-line .before .before in
     let at-test = at-content .before in
     let at-loop = at-test .before in
-    let at-start = at-loop .before .before .before in
-    (ranks-next _ _ (at-start .args .m .tail .value) (at-start .args .count) (at-loop .loop .left) (at-loop .loop .w) (at-loop .loop .out) (at-test .loop-test .taken) (at-loop .loop .inv .1) (rw (at-answer-line .answer-line .ensures, at-content .content .ensures) at (c .before .before .put-next .ensures)) ∙ at-loop .loop .inv .0, omega arith, search needs)
+    let at-start = at-loop .before .before .before in (
+      ranks-next _ _ (at-start .args .m .tail .value) (at-start .args .count) (at-loop .loop .left) (at-loop .loop .w) (at-loop .loop .out)
+          (at-test .loop-test .taken) (at-loop .loop .inv .1)
+          (rw (at-answer-line .answer-line .ensures, at-content .content .ensures) at (c .before .before .put-next .ensures)) ∙ at-loop .loop .inv .0,
+      omega arith,
+      search needs,
+    )
 
 same-length : tie.Need-same-length Inv-loop μ-loop
 same-length c = search needs
