@@ -11,24 +11,31 @@ use Rattle.state.specs.declared.Machine.{Machine}
 use Rattle.step.specs.declared.Step.{Step}
 use Rattle.writes.specs.Searched.{soughtOf}
 use Rattle.writes.specs.declared.Access.{Access}
-use Rattle.writes.specs.declared.Access.the-variants.{NoAccess, Reads}
+use Rattle.writes.specs.declared.Access.the-variants.{NoAccess, Reads, Writes}
 
 -- a step of a state of which nothing is known
 abbrev pub anew : Step → Asked
 anew s = record { step = s; known = false }
 
--- the held records are searched for the cell and the stamp of an access
-unfoldable pub askBy : Machine → Access → Ask
-askBy m a = record { access = a; held = m .held; query = soughtOf (cellsOf m) (firstOf m (cellAsked a - 1)) (cellAsked a) (stampAsked a) }
+-- how many records are searched: none where no access is made and the records are known to stand
+abbrev pub recordsAsked : Bool → Access → ℕ → ℕ
+recordsAsked false a held = held
+recordsAsked true NoAccess held = 0
+recordsAsked true (Reads c t) held = held
+recordsAsked true (Writes c t v) held = held
+
+-- they are searched for the cell and the stamp of an access
+unfoldable pub askBy : Bool → Machine → Access → Ask
+askBy known m a = record { access = a; held = recordsAsked known a (m .held); query = soughtOf (cellsOf m) (firstOf m (cellAsked a - 1)) (cellAsked a) (stampAsked a) }
 
 -- a state whose sizes do not stand asks of no cell
 abbrev pub askedIf : Bool → Access → Access
 askedIf true a = a
 askedIf false a = NoAccess
 
-unfoldable pub askOf : Machine → ℕ → Step → Ask
-askOf m lent s = askBy m (askedIf (sizesStand m lent) (asked m s))
+unfoldable pub askOf : Bool → Machine → ℕ → Step → Ask
+askOf known m lent s = askBy known m (askedIf (sizesStand m lent) (asked m s))
 
 -- to know what the queue holds, the slot of the rank is searched
 unfoldable pub rankAskOf : Machine → ℕ → ℕ → Ask
-rankAskOf m lent k = askBy m (askedIf (sizesStand m lent) (Reads (slotCell (m .shape) k) 0))
+rankAskOf m lent k = askBy false m (askedIf (sizesStand m lent) (Reads (slotCell (m .shape) k) 0))

@@ -1,6 +1,6 @@
 // What a step asks of the list of writes: its plain access, and the one search that serves it.
 ghost use mathlib.Core.Path.{_≡_};
-ghost use Rattle.asking.specs.Ask.{askBy, askOf, rankAskOf};
+ghost use Rattle.asking.specs.Ask.{recordsAsked, askBy, askOf, rankAskOf};
 ghost use Rattle.asking.specs.Bounds.{Small};
 ghost use Rattle.rules.specs.Access.{slotCell, stampedAt, accessOf, cellAsked, stampAsked};
 ghost use Rattle.rules.specs.Step.{asked};
@@ -120,14 +120,32 @@ fn asked_of(m: Machine, step: Step) -> Access
     access_of(m.shape, verb, state::place_of(m, index(step.thread)))
 }
 
+// How many records are searched: none where no access is made and the records are known to stand.
+fn records_asked(known: bool, access: Access, held: usize) -> usize
+    ensures { λ r. ⌜ r ≡ recordsAsked known access held ⌝ }
+{
+    if !known {
+        return held;
+    }
+    match access {
+        Access::NoAccess => 0,
+        Access::Reads { cell: _, stamp: _ } => held,
+        Access::Writes {
+            cell: _,
+            stamp: _,
+            value: _,
+        } => held,
+    }
+}
+
 // The list is searched once for an access: whether every held record stands, what the access finds, the newest write of its cell.
-fn ask_by(m: Machine, access: Access) -> Ask
-    ensures { λ r. ⌜ r ≡ askBy m access ⌝ }
+fn ask_by(known: bool, m: Machine, access: Access) -> Ask
+    ensures { λ r. ⌜ r ≡ askBy known m access ⌝ }
 {
     let cell = cell_asked(access);
     let first = state::first_of(m, index(cell));
     let cells = state::cells_of(m);
-    let held = state::held_of(m);
+    let held = records_asked(known, access, state::held_of(m));
     let query = writes::sought(cells, first, cell, stamp_asked(access));
     Ask {
         access,
@@ -138,14 +156,14 @@ fn ask_by(m: Machine, access: Access) -> Ask
 
 // What a step asks of a list of so many; a state whose sizes do not stand asks of no cell.
 pub fn ask_of(m: Machine, lent: usize, asked: Asked) -> Ask
-    ensures { λ r. ⌜ r ≡ askOf m lent (asked .step) ⌝ }
+    ensures { λ r. ⌜ r ≡ askOf (asked .known) m lent (asked .step) ⌝ }
 {
     let sized = standing::sizes_stand(m, lent);
     if sized {
         let step = asked.step;
-        return ask_by(m, asked_of(m, step));
+        return ask_by(asked.known, m, asked_of(m, step));
     }
-    ask_by(m, Access::NoAccess)
+    ask_by(asked.known, m, Access::NoAccess)
 }
 
 // What is asked to know what the queue holds at a rank.
@@ -155,7 +173,7 @@ pub fn ask_rank(m: Machine, lent: usize, rank: u32) -> Ask
     let sized = standing::sizes_stand(m, lent);
     if sized {
         let cell = slot_cell(m.shape, rank);
-        return ask_by(m, Access::Reads { cell, stamp: 0 });
+        return ask_by(false, m, Access::Reads { cell, stamp: 0 });
     }
-    ask_by(m, Access::NoAccess)
+    ask_by(false, m, Access::NoAccess)
 }

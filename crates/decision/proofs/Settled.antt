@@ -1,11 +1,11 @@
 -- What a step asks, what the search finds and what is decided come to the step, and so for what the queue holds. Assumes nothing.
-use mathlib.Core.Path.{_≡_, refl, ap, _∙_}
+use mathlib.Core.Path.{_≡_, refl, sym, ap, _∙_}
 use mathlib.Core.Bool.{Bool, true, false}
-use mathlib.Core.List.{List}
+use mathlib.Core.List.{List, [], _∷_}
 use Prim.Native.Nat.{ℕ, _-_}
 use lib.Dec.{eqb}
 use lib.ListN.{length, set, take}
-use Rattle.asking.specs.Ask.{askBy, askedIf, askOf, rankAskOf}
+use Rattle.asking.specs.Ask.{recordsAsked, askBy, askedIf, askOf, rankAskOf}
 use Rattle.asking.specs.declared.Ask.{Ask}
 use Rattle.decision.specs.Decision.{standsBy, standsIf, verdictOf, contentBy}
 use Rattle.decision.specs.Known.{judgedBy, decidedWith, leftBy, stepBy}
@@ -26,17 +26,27 @@ use Rattle.step.specs.declared.Answer.{Answer}
 use Rattle.step.specs.declared.Step.{Step}
 use Rattle.writes.proofs.Searched.{searched-is, fill-is}
 use Rattle.writes.specs.History.{searchOf}
-use Rattle.writes.specs.Searched.{soughtOf, searched}
+use Rattle.writes.specs.Searched.{soughtOf, lookedAt, searched}
 use Rattle.writes.specs.declared.Access.{Access}
-use Rattle.writes.specs.declared.Access.the-variants.{NoAccess, Reads}
+use Rattle.writes.specs.declared.Access.the-variants.{NoAccess, Reads, Writes}
 use Rattle.writes.specs.declared.Found.{Found}
+use Rattle.writes.specs.declared.Found.the-variants.{Present}
 use Rattle.writes.specs.declared.Looked.{Looked}
 use Rattle.writes.specs.declared.Query.{Query}
 use Rattle.writes.specs.declared.Write.{Write}
 
--- what the search finds for an access
+-- what is searched for an access, and what the search of all held records finds
+abbrev soughtFor : Machine → Access → Query
+soughtFor m a = soughtOf (cellsOf m) (firstOf m (cellAsked a - 1)) (cellAsked a) (stampAsked a)
+
 abbrev foundFor : Machine → List Write → Access → Query
-foundFor m ws a = searched (soughtOf (cellsOf m) (firstOf m (cellAsked a - 1)) (cellAsked a) (stampAsked a)) (take (m .held) ws)
+foundFor m ws a = searched (soughtFor m a) (take (m .held) ws)
+
+-- what is found once stays found
+found-stays : (q : Query) (ws : List Write) (v : ℕ) → q .looked .found ≡ Present v → searched q ws .looked .found ≡ Present v
+unfolding searched lookedAt
+found-stays q [] v e = e
+found-stays q (w ∷ ws) v e = found-stays (lookedAt q w) ws v (rw e)
 
 module _ (m : Machine) (ws : List Write) where
   stands-for : (a : Access) → standsBy m (length ws) (foundFor m ws a) ≡ stands m ws
@@ -51,10 +61,23 @@ module _ (m : Machine) (ws : List Write) where
     abbrev by : Access → Bool → Found → Decided
     by a b f = decidedBy (refusalBy b m (length ws) s a f) m s a f
 
-    abbrev decided : Access → Decided
-    decided a = by a (standsIf known m (length ws) s (foundFor m ws a)) (foundFor m ws a .looked .found)
+    -- what the records that are searched show
+    abbrev shownFor : Bool → Access → Query
+    shownFor z a = searched (soughtFor m a) (take (recordsAsked z a (m .held)) ws)
 
-    judged-for : (z : Bool) (a : Access) → standsIf z m (length ws) s (foundFor m ws a) ≡ judgedBy z m ws s
+    -- where no access is made, nothing of the list matters
+    shown-found : (z : Bool) (a : Access) → shownFor z a .looked .found ≡ foundFor m ws a .looked .found
+    unfolding soughtOf
+    shown-found false a = refl
+    shown-found true NoAccess =
+        found-stays _ (take 0 ws) _ refl ∙ sym (found-stays (soughtFor m NoAccess) (take (m .held) ws) (firstOf m 0) refl)
+    shown-found true (Reads c t) = refl
+    shown-found true (Writes c t v) = refl
+
+    abbrev decided : Access → Decided
+    decided a = by a (standsIf known m (length ws) s (shownFor known a)) (shownFor known a .looked .found)
+
+    judged-for : (z : Bool) (a : Access) → standsIf z m (length ws) s (shownFor z a) ≡ judgedBy z m ws s
     judged-for true a = refl
     judged-for false a = stands-for a
 
@@ -67,12 +90,13 @@ module _ (m : Machine) (ws : List Write) where
     decided-is : (z : Bool) → sizesStand m (length ws) ≡ z → decided (askedIf z (asked m s)) ≡ decidedWith (judgedBy known m ws s) m ws s
     unfolding foundBy lookedBy searchOf refusalBy
     decided-is true e =
-        ap (λ (b : Bool). by (asked m s) b (foundFor m ws (asked m s) .looked .found)) (judged-for known (asked m s))
+        ap (λ (b : Bool). by (asked m s) b (shownFor known (asked m s) .looked .found)) (judged-for known (asked m s))
+        ∙ ap (λ (f : Found). by (asked m s) (judgedBy known m ws s) f) (shown-found known (asked m s))
         ∙ ap (λ (l : Looked). by (asked m s) (judgedBy known m ws s) (l .found)) (looked-for (asked m s) e)
     decided-is false e = rw (judged-for known NoAccess, unsized known e)
 
     abbrev ask : Ask
-    ask = askOf m (length ws) s
+    ask = askOf known m (length ws) s
 
     abbrev verdict : Verdict
     verdict = verdictOf known m (length ws) s (ask .access) (searched (ask .query) (take (ask .held) ws))

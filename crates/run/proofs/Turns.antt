@@ -87,8 +87,11 @@ going-val = LL.val G.the-type G′.the-laws
 abbrev pub ended-val : Ended → Val
 ended-val = LL.val F.the-type F′.the-laws
 
-pub row-tells : Tells Row (Is Row) (array-vals write-vals)
-row-tells = array-tells T.the-row write-vals (LL.tells T.the-type T′.the-laws) 1024
+pub write-tells : Tells T.the-row (Is T.the-row) write-vals
+write-tells = LL.tells T.the-type T′.the-laws
+
+row-tells : Tells Row (Is Row) (array-vals write-vals)
+row-tells = array-tells T.the-row write-vals write-tells 1024
 
 -- the loop's state: the run on its way, the list and the buffer, and what is known of them
 pub record State (t : List ℕ) (x : Run) (os : List ℕ) : Type 0 where
@@ -112,6 +115,9 @@ module _ {t : List ℕ} {x : Run} {os : List ℕ} (s : State t x os) where
 
   pub room-w : Room T.the-row (length (s .ws))
   room-w = subst (Room T.the-row) (sym many) (lit< tt, lit< tt)
+
+  pub room-b : Room u8 (length os) → Room u8 (length (s .bs))
+  room-b = subst (Room u8) (sym (s .as-long))
 
 module _ {M : Type 1} (𝓤 : URA M) (H : Heap 𝓤) (A : Atoms 𝓤) (mem : Memory → SProp 𝓤) (run : Routine → Fun 𝓤) where
   abbrev pub NoWrites : Contract 𝓤

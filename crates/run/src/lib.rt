@@ -22,7 +22,6 @@ ghost use Prim.Native.Nat.{_+_, _-_, _^_, _<_, _≤_};
 ghost use lib.ListN.{length, replicate, take};
 ghost use mathlib.Core.Bool.{false};
 ghost use Rattle.number.specs.Buffer.{Wrote};
-ghost use Rattle.number.specs.declared.Written.the-variants.{Next};
 ghost use Rattle.opening.specs.Opening.{openedOf};
 ghost use Rattle.printed.specs.Printed.{page, putLines};
 ghost use Rattle.texts.specs.Schedule.{weightIn, stepIn, weightsAt, stepsAt, scheduleOf};

@@ -108,7 +108,7 @@ abbrev vval : Verdict → Val
 vval = LL.val J.the-type J′.the-laws
 
 abbrev AsksFor : Machine → ℕ → Asked → Ask → Type 0
-AsksFor m n s k = k ≡ askOf m n (s .step)
+AsksFor m n s k = k ≡ askOf (s .known) m n (s .step)
 
 abbrev Settles : Machine → ℕ → Asked → Ask → Query → Verdict → Type 0
 Settles m n s k u v = v ≡ verdictOf (s .known) m n (s .step) (k .access) u

@@ -31,7 +31,7 @@ use types.SemTy.{cells, Arr}
 use types.Tokens.{lft-new, lft-end}
 use sound.WpLaws.{FmC, fmOf, WpFn-mono}
 use denote.RattleType.{owns}
-use denote.Laws.{Is, Makes, Tells, Lawful}
+use denote.Laws.{Is, Makes, Lawful}
 use denote.Memory.{mem, pointee}
 use denote.Array.{array-lawful}
 use denote.Builtin.{u8}
@@ -74,9 +74,8 @@ use Rattle.run.specs.Going.{asks}
 use Rattle.run.specs.Run.{Run, ran}
 use Rattle.run.specs.declared.Ended.{Ended}
 use Rattle.run.proofs.Runs.{way-begins, way-counts, way-ends, way-goes}
-use Rattle.run.proofs.Turns.{Row, list-val, section-val, going-val, ended-val, State, is-m, is-asked, many, room-w}
-use Rattle.run.proofs.Turns.{Known, NoWrites, Begin, GoOn, Finish}
-use Rattle.run.proofs.Turns.{calls-no-writes, calls-begin, calls-go-on, calls-finish}
+use Rattle.run.proofs.Turns.{Row, list-val, section-val, going-val, ended-val, State, is-m, is-asked, many, write-tells, room-w, room-b, Known}
+use Rattle.run.proofs.Turns.{NoWrites, Begin, GoOn, Finish, calls-no-writes, calls-begin, calls-go-on, calls-finish}
 use Rattle.run.proofs.Ended as F
 use Rattle.run.proofs.Ended.Laws as F′
 use Rattle.run.proofs.Going as G
@@ -104,9 +103,6 @@ stayed = (
   stay-none-slice (0 ∷ []) tt (plain (λ _. u8)) yes,
   (stay-none (λ _. N.the-row) yes, (stay-none (λ _. Q.the-row) yes, (stay-slice (1 ∷ []) tt (plain (λ _. u8)), tt))),
 )
-
-write-tells : Tells T.the-row (Is T.the-row) write-vals
-write-tells = LL.tells T.the-type T′.the-laws
 
 module _ {M : Type 1} (𝓤 : URA M) (H : Heap 𝓤) (A : Atoms 𝓤) (W : Given 𝓤 H A) (at-mem : Memory → SProp 𝓤) (run : Routine → Fun 𝓤) (κ κ′ : Lft)
     (q q′ : Share) (x : RefT (List ℕ)) (b o : ℕ) (γ : GName) (os : List ℕ) (sec : Section) (m₀ : Machine) (room-t : Room u8 (length (now x)))
@@ -161,9 +157,6 @@ module _ {M : Type 1} (𝓤 : URA M) (H : Heap 𝓤) (A : Atoms 𝓤) (W : Given
       owned ! Q.the-row (Is Q.the-row) (LL.makes Q.the-type Q′.the-plain 𝓤 H A) m₀ _ is-m₀ $ fjoin ! $
       owned ! N.the-row (Is N.the-row) (LL.makes N.the-type N′.the-plain 𝓤 H A) sec _ is-sec $ fjoin ! $
       move ! (1 ∷ 0 ∷ []) $ fjoin ! $ frame ! $ owned ! F.the-row (Is F.the-row) (LL.makes F.the-type F′.the-plain 𝓤 H A) e _ p $ done !
-
-  room-b : (s : State t the-run os) → Room u8 (length (s .bs))
-  room-b s = subst (Room u8) (sym (s .as-long)) room-o
 
   module _ (𝓣 : Tables 𝓤 H) (fm : FmC 𝓤 H (W .laws) (𝓣 .C)) (known : Known 𝓤 H A at-mem run (𝓣 .C)) where
     module _ (l₀ l₁ l₂ l₃ l₄ l₅ l₆ l₇ l₈ l₉ l₁₀ l₁₁ l₁₂ l₁₃ : ℕ) where
@@ -220,11 +213,12 @@ module _ {M : Type 1} (𝓤 : URA M) (H : Heap 𝓤) (A : Atoms 𝓤) (W : Given
           (‵ (fat fullShare G′.mir l₆ 0 (going-val (s .g))) ∷ ‵ (fdies G′.mir l₆) ∷ ‵ (fat fullShare arr l₅ 0 (list-val (s .ws)))
           ∷ ‵ (fdies arr l₅) ∷ Passed)
 
+      -- after the loop
       abbrev Left : Kit.Post 𝓤 H
-      Left = anyQ (afterBlock 𝓤 H (afterSeq 𝓤 H (Wp 𝓤 H C Λ E mir.t-5 (atReturn 𝓤 H E Post)) (atReturn 𝓤 H E Post)))
+      Left = anyQ (afterSeq 𝓤 H (Wp 𝓤 H C Λ E mir.t-5 (atReturn 𝓤 H E Post)) (atReturn 𝓤 H E Post))
 
       abbrev Turn : State t the-run os → Kit.Post 𝓤 H
-      Turn s = anyQ (afterTurn 𝓤 H (Below 𝓤 H A ≺ I s) (post 𝓤 H Left))
+      Turn s = anyQ (afterTurn 𝓤 H (Below 𝓤 H A ≺ I s) (afterBlock 𝓤 H (post 𝓤 H Left)))
 
       -- a step is ahead
       goes : (s : State t the-run os) → s .g .ahead .on ≡ true → Sq W (I s) (runs C Λ E mir.turn-1 (Turn s))
@@ -283,7 +277,7 @@ module _ {M : Type 1} (𝓤 : URA M) (H : Heap 𝓤) (A : Atoms 𝓤) (W : Given
           (λ r bs on l′ is-r.
           -- [text's token; ν′'s; the last bytes; the lender's part; text; _13; …]: ν′ is ended, and the buffer is back
           move ! (1 ∷ []) $ lft-end ! tt $ move ! (0 ∷ 3 ∷ 2 ∷ []) $ use3 W (later (‵ (Out bs (u (s .bs))) ⊛ ‵ (flft κ′ q′)))
-          (comes-back u8 κ′ (ν′ ∷ []) q′ γ b o 𝓤 H A W (named 1) (named 1) (s .bs) δ′ bs (room-b s) l′) $ await ! tt $ split ! $
+          (comes-back u8 κ′ (ν′ ∷ []) q′ γ b o 𝓤 H A W (named 1) (named 1) (s .bs) δ′ bs (room-b s room-o) l′) $ await ! tt $ split ! $
           rewrite ! 0 (λ (k : ℕ). ‵ (Out bs (sliceVal (b, o) k))) (sym l′) refl $ move ! (2 ∷ 1 ∷ 3 ∷ 0 ∷ []) $
           land-last ! (from ! (stop !)) (store ! 18 refl (LL.lawful G.the-type G′.the-laws 𝓤 H A W .typed r _ is-r .0)) $
           forget ! 4 refl $ forget ! 6 refl $ forget ! 8 refl $ forget ! 10 refl $ forget ! 12 refl $ forget ! 16 refl $
@@ -319,8 +313,7 @@ module _ {M : Type 1} (𝓤 : URA M) (H : Heap 𝓤) (A : Atoms 𝓤) (W : Given
       turn s true e = goes s e
       turn s false e = ends s e
 
-      looping : (s : State t the-run os)
-          → Sq W (I s) (runs C Λ E mir.s-4 (anyQ (afterSeq 𝓤 H (Wp 𝓤 H C Λ E mir.t-5 (atReturn 𝓤 H E Post)) (atReturn 𝓤 H E Post))))
+      looping : (s : State t the-run os) → Sq W (I s) (runs C Λ E mir.s-4 Left)
       looping s =
           blocks ! $ loops ! 𝓣 ≺ (InvImage·wf (λ (r : State t the-run os). length (asks t (r .g .ahead))) (Nat·lt-wfRel .wf)) I
           (λ r. turn r (r .g .ahead .on) refl) s
