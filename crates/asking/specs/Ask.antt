@@ -9,9 +9,10 @@ use Rattle.standing.specs.Stands.{sizesStand}
 use Rattle.state.specs.State.{cellsOf, firstOf}
 use Rattle.state.specs.declared.Machine.{Machine}
 use Rattle.step.specs.declared.Step.{Step}
-use Rattle.writes.specs.Searched.{soughtOf}
+use Rattle.writes.specs.Searched.{soughtOf, unjudgedOf}
 use Rattle.writes.specs.declared.Access.{Access}
 use Rattle.writes.specs.declared.Access.the-variants.{NoAccess, Reads, Writes}
+use Rattle.writes.specs.declared.Query.{Query}
 
 -- a step of a state of which nothing is known
 abbrev pub anew : Step → Asked
@@ -24,9 +25,17 @@ recordsAsked true NoAccess held = 0
 recordsAsked true (Reads c t) held = held
 recordsAsked true (Writes c t v) held = held
 
+-- records that are known to stand are not judged
+abbrev pub judgedUnless : Bool → Query → Query
+judgedUnless true q = unjudgedOf q
+judgedUnless false q = q
+
 -- they are searched for the cell and the stamp of an access
+abbrev pub soughtFor : Machine → Access → Query
+soughtFor m a = soughtOf (cellsOf m) (firstOf m (cellAsked a - 1)) (cellAsked a) (stampAsked a)
+
 unfoldable pub askBy : Bool → Machine → Access → Ask
-askBy known m a = record { access = a; held = recordsAsked known a (m .held); query = soughtOf (cellsOf m) (firstOf m (cellAsked a - 1)) (cellAsked a) (stampAsked a) }
+askBy known m a = record { access = a; held = recordsAsked known a (m .held); query = judgedUnless known (soughtFor m a) }
 
 -- a state whose sizes do not stand asks of no cell
 abbrev pub askedIf : Bool → Access → Access

@@ -1,6 +1,6 @@
 // What a step asks of the list of writes: its plain access, and the one search that serves it.
 ghost use mathlib.Core.Path.{_≡_};
-ghost use Rattle.asking.specs.Ask.{recordsAsked, askBy, askOf, rankAskOf};
+ghost use Rattle.asking.specs.Ask.{recordsAsked, judgedUnless, askBy, askOf, rankAskOf};
 ghost use Rattle.asking.specs.Bounds.{Small};
 ghost use Rattle.rules.specs.Access.{slotCell, stampedAt, accessOf, cellAsked, stampAsked};
 ghost use Rattle.rules.specs.Step.{asked};
@@ -138,6 +138,16 @@ fn records_asked(known: bool, access: Access, held: usize) -> usize
     }
 }
 
+// Records that are known to stand are not judged.
+fn judged_unless(known: bool, q: Query) -> Query
+    ensures { λ r. ⌜ r ≡ judgedUnless known q ⌝ }
+{
+    if known {
+        return writes::unjudged(q);
+    }
+    q
+}
+
 // The list is searched once for an access: whether every held record stands, what the access finds, the newest write of its cell.
 fn ask_by(known: bool, m: Machine, access: Access) -> Ask
     ensures { λ r. ⌜ r ≡ askBy known m access ⌝ }
@@ -146,7 +156,10 @@ fn ask_by(known: bool, m: Machine, access: Access) -> Ask
     let first = state::first_of(m, index(cell));
     let cells = state::cells_of(m);
     let held = records_asked(known, access, state::held_of(m));
-    let query = writes::sought(cells, first, cell, stamp_asked(access));
+    let query = judged_unless(
+        known,
+        writes::sought(cells, first, cell, stamp_asked(access)),
+    );
     Ask {
         access,
         held,

@@ -1,11 +1,11 @@
 -- What a step asks, what the search finds and what is decided come to the step, and so for what the queue holds. Assumes nothing.
 use mathlib.Core.Path.{_≡_, refl, sym, ap, _∙_}
 use mathlib.Core.Bool.{Bool, true, false}
-use mathlib.Core.List.{List, [], _∷_}
+use mathlib.Core.List.{List}
 use Prim.Native.Nat.{ℕ, _-_}
 use lib.Dec.{eqb}
 use lib.ListN.{length, set, take}
-use Rattle.asking.specs.Ask.{recordsAsked, askBy, askedIf, askOf, rankAskOf}
+use Rattle.asking.specs.Ask.{recordsAsked, judgedUnless, soughtFor, askBy, askedIf, askOf, rankAskOf}
 use Rattle.asking.specs.declared.Ask.{Ask}
 use Rattle.decision.specs.Decision.{standsBy, standsIf, verdictOf, contentBy}
 use Rattle.decision.specs.Known.{judgedBy, decidedWith, leftBy, stepBy}
@@ -24,29 +24,19 @@ use Rattle.state.specs.State.{cellsOf, atomicAt, firstOf}
 use Rattle.state.specs.declared.Machine.{Machine}
 use Rattle.step.specs.declared.Answer.{Answer}
 use Rattle.step.specs.declared.Step.{Step}
-use Rattle.writes.proofs.Searched.{searched-is, fill-is}
+use Rattle.writes.proofs.Searched.{found-alike, found-stays, searched-is, fill-is}
 use Rattle.writes.specs.History.{searchOf}
-use Rattle.writes.specs.Searched.{soughtOf, lookedAt, searched}
+use Rattle.writes.specs.Searched.{soughtOf, searched}
 use Rattle.writes.specs.declared.Access.{Access}
 use Rattle.writes.specs.declared.Access.the-variants.{NoAccess, Reads, Writes}
 use Rattle.writes.specs.declared.Found.{Found}
-use Rattle.writes.specs.declared.Found.the-variants.{Present}
 use Rattle.writes.specs.declared.Looked.{Looked}
 use Rattle.writes.specs.declared.Query.{Query}
 use Rattle.writes.specs.declared.Write.{Write}
 
--- what is searched for an access, and what the search of all held records finds
-abbrev soughtFor : Machine → Access → Query
-soughtFor m a = soughtOf (cellsOf m) (firstOf m (cellAsked a - 1)) (cellAsked a) (stampAsked a)
-
+-- what the search of all held records finds for an access
 abbrev foundFor : Machine → List Write → Access → Query
 foundFor m ws a = searched (soughtFor m a) (take (m .held) ws)
-
--- what is found once stays found
-found-stays : (q : Query) (ws : List Write) (v : ℕ) → q .looked .found ≡ Present v → searched q ws .looked .found ≡ Present v
-unfolding searched lookedAt
-found-stays q [] v e = e
-found-stays q (w ∷ ws) v e = found-stays (lookedAt q w) ws v (rw e)
 
 module _ (m : Machine) (ws : List Write) where
   stands-for : (a : Access) → standsBy m (length ws) (foundFor m ws a) ≡ stands m ws
@@ -63,16 +53,17 @@ module _ (m : Machine) (ws : List Write) where
 
     -- what the records that are searched show
     abbrev shownFor : Bool → Access → Query
-    shownFor z a = searched (soughtFor m a) (take (recordsAsked z a (m .held)) ws)
+    shownFor z a = searched (judgedUnless z (soughtFor m a)) (take (recordsAsked z a (m .held)) ws)
 
     -- where no access is made, nothing of the list matters
     shown-found : (z : Bool) (a : Access) → shownFor z a .looked .found ≡ foundFor m ws a .looked .found
     unfolding soughtOf
     shown-found false a = refl
     shown-found true NoAccess =
-        found-stays _ (take 0 ws) _ refl ∙ sym (found-stays (soughtFor m NoAccess) (take (m .held) ws) (firstOf m 0) refl)
-    shown-found true (Reads c t) = refl
-    shown-found true (Writes c t v) = refl
+        found-stays (judgedUnless true (soughtFor m NoAccess)) (take 0 ws) (firstOf m 0) refl
+        ∙ sym (found-stays (soughtFor m NoAccess) (take (m .held) ws) (firstOf m 0) refl)
+    shown-found true (Reads c t) = found-alike _ _ (take (m .held) ws) refl refl refl
+    shown-found true (Writes c t v) = found-alike _ _ (take (m .held) ws) refl refl refl
 
     abbrev decided : Access → Decided
     decided a = by a (standsIf known m (length ws) s (shownFor known a)) (shownFor known a .looked .found)

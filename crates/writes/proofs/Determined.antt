@@ -9,11 +9,15 @@ use ghost.Atoms.{Atoms}
 use contract.Monad.{Fun, conj, fact}
 use denote.Ref.{now}
 use Rattle.laws.proofs.Determined.{determined, determined-together, OneResult, OneResultOf}
+use Rattle.writes.proofs.unjudged.Reads as unjudged
 use Rattle.writes.proofs.sought.Reads as sought
 use Rattle.writes.proofs.search as search-of
 use Rattle.writes.proofs.search_kept.Reads as search-kept
 use Rattle.writes.proofs.fill_of.Reads as fill-of
 use Rattle.writes.proofs.store as store-of
+
+pub unjudged-determined : OneResult unjudged.Post
+unjudged-determined κs a x y e f = determined
 
 pub sought-determined : OneResult sought.Post
 sought-determined κs a x y e f = determined

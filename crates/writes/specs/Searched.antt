@@ -1,5 +1,5 @@
 -- One search answers all that is asked of the list: a fold over its records, in order of happening. Assumes nothing.
-use mathlib.Core.Bool.{true}
+use mathlib.Core.Bool.{Bool, true, false}
 use mathlib.Core.List.{List, [], _∷_}
 use Prim.Native.Nat.{ℕ}
 use lib.Dec.{eqb}
@@ -12,21 +12,32 @@ use Rattle.writes.specs.declared.Write.{Write}
 unfoldable pub soughtOf : ℕ → ℕ → ℕ → ℕ → Query
 soughtOf k first c t =
     record {
+      judged = true;
       cells = k;
       cell = c;
       stamp = t;
       looked = record { stand = true; found = presentIf (eqb t 0) first; newest = record { stamp = 0; value = first } };
     }
 
+-- the same of records that are known to stand
+abbrev pub unjudgedOf : Query → Query
+unjudgedOf q = record { judged = false; cells = q .cells; cell = q .cell; stamp = q .stamp; looked = q .looked }
+
+-- the records before and this one stand, where that is judged
+abbrev pub standStill : Bool → Bool → Bool → Bool
+standStill true before this = before and this
+standStill false before this = before
+
 -- one record more
 unfoldable pub lookedAt : Query → Write → Query
 lookedAt q w =
     record {
+      judged = q .judged;
       cells = q .cells;
       cell = q .cell;
       stamp = q .stamp;
       looked = record {
-        stand = q .looked .stand and recordStands (q .cells) w;
+        stand = standStill (q .judged) (q .looked .stand) (recordStands (q .cells) w);
         found = earlier (q .looked .found) (shownBy w (q .cell) (q .stamp));
         newest = newer (q .looked .newest) w (q .cell);
       };

@@ -4,7 +4,7 @@ ghost use Prim.Native.Nat.{min};
 ghost use lib.ListN.{set, take};
 ghost use Rattle.writes.specs.Records.{noWrite, fill, fillOf};
 ghost use Rattle.writes.specs.History.{earlier, presentIf, shownBy, newer, recordStands};
-ghost use Rattle.writes.specs.Searched.{soughtOf, lookedAt, searched};
+ghost use Rattle.writes.specs.Searched.{soughtOf, unjudgedOf, standStill, lookedAt, searched};
 use laws::both;
 use step::MOST;
 
@@ -35,8 +35,9 @@ pub struct Looked {
     pub newest: Newest,
 }
 
-// What a search asks of a machine with so many cells, and what it has found so far.
+// What a search asks of a machine with so many cells, whether it judges the records, and what it has found so far.
 pub struct Query {
+    pub judged: bool,
     pub cells: usize,
     pub cell: u32,
     pub stamp: u32,
@@ -127,6 +128,7 @@ pub fn sought(k: usize, first: u32, cell: u32, stamp: u32) -> Query
         newest,
     };
     Query {
+        judged: true,
         cells: k,
         cell,
         stamp,
@@ -134,12 +136,31 @@ pub fn sought(k: usize, first: u32, cell: u32, stamp: u32) -> Query
     }
 }
 
+// The same of records that are known to stand.
+pub fn unjudged(q: Query) -> Query
+    ensures { λ r. ⌜ r ≡ unjudgedOf q ⌝ }
+{
+    let mut r = q;
+    r.judged = false;
+    r
+}
+
+// The records before and this one stand, where that is judged.
+fn stand_still(judged: bool, before: bool, w: Write, k: usize) -> bool
+    ensures { λ r. ⌜ r ≡ standStill judged before (recordStands k w) ⌝ }
+{
+    if judged {
+        return both(before, record_stands(w, k));
+    }
+    before
+}
+
 // One record more.
 fn look_at(q: Query, w: Write) -> Query
     ensures { λ r. ⌜ r ≡ lookedAt q w ⌝ }
 {
     let so_far = q.looked;
-    let stand = both(so_far.stand, record_stands(w, q.cells));
+    let stand = stand_still(q.judged, so_far.stand, w, q.cells);
     let before = so_far.found;
     let found = earlier_of(before, shown_by(w, q.cell, q.stamp));
     let newest = newer_of(so_far.newest, w, q.cell);
@@ -149,6 +170,7 @@ fn look_at(q: Query, w: Write) -> Query
         newest,
     };
     Query {
+        judged: q.judged,
         cells: q.cells,
         cell: q.cell,
         stamp: q.stamp,

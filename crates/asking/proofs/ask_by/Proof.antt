@@ -6,12 +6,13 @@ use Rattle.asking.proofs.ask_by.Tie as tie
 returns : tie.Need-returns
 unfolding askBy
 returns c =
-    let asked = c .before .before in
+    let asked = c .before .before .before in
     let counted = asked .before in
     let first = counted .before .before in
     rw (
-      c .sought .ensures,
-      c .before .stamp-asked .ensures,
+      c .judged-unless .ensures,
+      c .before .sought .ensures,
+      c .before .before .stamp-asked .ensures,
       asked .records-asked .ensures,
       counted .held-of .ensures,
       counted .before .cells-of .ensures,
@@ -22,4 +23,4 @@ returns c =
 
 pub ask-by-spec : {M : Type 1} → statement M
 ask-by-spec = tie.close (tie.spec (λ c κs. search needs) (λ c κs. search needs) (λ c κs. search needs) (λ c κs. search needs)
-    (λ c κs. search needs) (λ c κs. search needs) (λ c κs. search needs) (λ c κs. search needs) returns)
+    (λ c κs. search needs) (λ c κs. search needs) (λ c κs. search needs) (λ c κs. search needs) (λ c κs. search needs) returns)

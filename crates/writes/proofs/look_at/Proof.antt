@@ -11,10 +11,9 @@ returns c =
       c .newer-of .ensures,
       c .before .earlier-of .ensures,
       seen .shown-by .ensures,
-      seen .before .both .ensures,
-      seen .before .before .record-stands .ensures,
+      seen .before .stand-still .ensures,
     )
 
 pub look-at-spec : {M : Type 1} → statement M
-look-at-spec = tie.close (tie.spec (λ c κs. search needs) (λ c κs. search needs) (λ c κs. search needs) (λ c κs. search needs)
+look-at-spec = tie.close (tie.spec (λ c κs. search needs) (λ c κs. search needs) (λ c κs. search needs)
     (λ c κs. search needs) returns)
