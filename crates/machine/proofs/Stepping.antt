@@ -37,11 +37,14 @@ use Rattle.rules.specs.declared.Done.{Done}
 use Rattle.state.proofs.Machine as Q
 use Rattle.state.proofs.Machine.Laws as Q′
 use Rattle.state.specs.declared.Machine.{Machine}
+use Rattle.step.proofs.Step as P
+use Rattle.step.proofs.Step.Laws as P′
+use Rattle.step.specs.declared.Step.{Step}
 use Rattle.writes.proofs.Calling.{landed}
 use Rattle.writes.proofs.Lent.{lent-at}
 use Rattle.writes.proofs.Write as T
 use Rattle.writes.specs.declared.Write.{Write}
-use Rattle.machine.proofs.step as step-of
+use Rattle.machine.proofs.step_by as step-of
 
 -- machine values
 abbrev pub machine-val : Machine → Val
@@ -49,6 +52,9 @@ machine-val = LL.val Q.the-type Q′.the-laws
 
 abbrev pub asked-val : Asked → Val
 asked-val = LL.val S.the-type S′.the-laws
+
+abbrev pub step-val : Step → Val
+step-val = LL.val P.the-type P′.the-laws
 
 abbrev pub done-val : Done → Val
 done-val = LL.val D.the-type D′.the-laws

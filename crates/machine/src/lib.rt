@@ -1,16 +1,24 @@
 // One step of the machine, and what its queue holds.
 ghost use mathlib.Core.Path.{_≡_};
 ghost use Rattle.decision.specs.Known.{stepBy};
-ghost use Rattle.rules.specs.Step.{outcome, contentOf};
+ghost use Rattle.rules.specs.Step.{outcome, stepOf, contentOf};
 use asking::Asked;
 use rules::Done;
 use state::Machine;
 use step::Answer;
+use step::Step;
 use writes::Write;
 
-// One step of a thread, for every state, list and step: 14 for a state that cannot stand or a list shorter than its held count. Where the
-// caller knows that both stand, as after a step that was taken, they are not judged anew.
-pub fn step(m: Machine, ws: &mut [Write], asked: Asked) -> Done
+// One step of a thread, for every state, list and step: 14 for a state that cannot stand or a list shorter than its held count.
+pub fn step(m: Machine, ws: &mut [Write], step: Step) -> Done
+    ensures { λ r. ⌜ outcome r (now (ws .exit)) ≡ stepOf m (now (ws .entry)) step ⌝ }
+{
+    let asked = Asked { step, known: false };
+    step_by(m, ws, asked)
+}
+
+// The same where the caller may know that state and list stand, as after a step that was taken: then they are not judged anew.
+pub fn step_by(m: Machine, ws: &mut [Write], asked: Asked) -> Done
     ensures { λ r. ⌜ outcome r (now (ws .exit)) ≡ stepBy (asked .known) m (now (ws .entry)) (asked .step) ⌝ }
 {
     let lent = ws.len();

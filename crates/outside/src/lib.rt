@@ -393,6 +393,6 @@ pub extern "C" fn dentralupo_step(
 {
     let m = machine_of(state);
     let step = step_asked(asked);
-    let done = machine::step(m, writes, step);
+    let done = machine::step_by(m, writes, step);
     put_done(state, answer, done);
 }

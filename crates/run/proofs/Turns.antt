@@ -33,7 +33,7 @@ use denote.Triple.Clauses.{ensured, lasts}
 use denote.Triple.Spec.{tripleOf}
 use denote.Triple.Walked.{says}
 use Rattle.machine.proofs.Stepping.{Stepping, machine-val, asked-val, done-val}
-use Rattle.machine.proofs.step.Symbol.{name as #step}
+use Rattle.machine.proofs.step_by.Symbol.{name as #step}
 use Rattle.rules.proofs.Done as D
 use Rattle.rules.proofs.Done.Laws as D′
 use Rattle.rules.specs.declared.Done.{Done}

@@ -276,7 +276,7 @@ fn run_steps(text: &[u8], s: Section, first: Machine, out: &mut [u8]) -> Ended
     let mut ws = no_writes();
     let mut g = begin(text, s, first);
     while g.ahead.on {
-        let done = machine::step(g.machine, &mut ws, g.ahead.asked);
+        let done = machine::step_by(g.machine, &mut ws, g.ahead.asked);
         g = go_on(text, out, g, done);
     }
     finish(g, ws)

@@ -39,9 +39,9 @@ use denote.Triple.Table.{entered, cited}
 use denote.Triple.Walked.{says, Stays, stay-none-slice, gave-slice, walkOf, goes-none-slice, goes-gave-slice, Walks, ends-at, walked, walk-meets}
 use denote.Exit.{yes}
 use Rattle.machine.proofs.Stepping.{Stepping, calls-step}
-use Rattle.machine.proofs.step.Symbol as step-def
-use Rattle.machine.proofs.step.Symbol.{name as #step}
-use Rattle.machine.proofs.step.Met as step-thm
+use Rattle.machine.proofs.step_by.Symbol as step-def
+use Rattle.machine.proofs.step_by.Symbol.{name as #step}
+use Rattle.machine.proofs.step_by.Met as step-thm
 use Rattle.number.specs.Buffer.{placed}
 use Rattle.rules.proofs.Done as D
 use Rattle.rules.proofs.Done.Laws as D′
@@ -314,6 +314,6 @@ dentralupo-step-spec 𝓤 H 𝓜 𝓖 𝓡 =
     (machine-of-thm.met 𝓤 H 𝓜 𝓖 𝓡))
     (cited 𝓤 H (StepAsked 𝓤 H (𝓖 .A) (𝓜 .mem) (𝓡 .run)) 𝓜 𝓡 code.env #step-asked step-asked-def.routine code.calls-outside·step-asked
     (step-asked-thm.met 𝓤 H 𝓜 𝓖 𝓡))
-    (cited 𝓤 H (Stepping 𝓤 H (𝓖 .A) (𝓜 .mem) (𝓡 .run)) 𝓜 𝓡 code.env #step step-def.routine code.calls-machine·step (step-thm.met 𝓤 H 𝓜 𝓖 𝓡))
+    (cited 𝓤 H (Stepping 𝓤 H (𝓖 .A) (𝓜 .mem) (𝓡 .run)) 𝓜 𝓡 code.env #step step-def.routine code.calls-machine·step-by (step-thm.met 𝓤 H 𝓜 𝓖 𝓡))
     (cited 𝓤 H (PutDone 𝓤 H (𝓖 .A) (𝓜 .mem) (𝓡 .run)) 𝓜 𝓡 code.env #put-done put-done-def.routine code.calls-outside·put-done
     (put-done-thm.met 𝓤 H 𝓜 𝓖 𝓡)))

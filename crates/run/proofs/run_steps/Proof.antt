@@ -48,9 +48,9 @@ use denote.Triple.Walked.{says, Stays, stay-none, stay-none-slice, stay-slice, w
 use denote.Triple.Walked.{walked, walk-meets}
 use denote.Exit.{yes}
 use Rattle.machine.proofs.Stepping.{Stepping, calls-step, machine-val}
-use Rattle.machine.proofs.step.Symbol as step-def
-use Rattle.machine.proofs.step.Symbol.{name as #step}
-use Rattle.machine.proofs.step.Met as step-thm
+use Rattle.machine.proofs.step_by.Symbol as step-def
+use Rattle.machine.proofs.step_by.Symbol.{name as #step}
+use Rattle.machine.proofs.step_by.Met as step-thm
 use Rattle.rules.proofs.Done as D
 use Rattle.rules.proofs.Done.Laws as D′
 use Rattle.schedule.proofs.Section as N
@@ -395,7 +395,7 @@ run-steps-spec 𝓤 H 𝓜 𝓖 𝓡 =
           (no-writes-thm.met 𝓤 H 𝓜 𝓖 𝓡);
       begin = cited 𝓤 H (Begin 𝓤 H (𝓖 .A) (𝓜 .mem) (𝓡 .run)) 𝓜 𝓡 code.env #begin begin-def.routine code.calls-run·begin (begin-thm.met 𝓤 H 𝓜 𝓖 𝓡);
       step =
-          cited 𝓤 H (Stepping 𝓤 H (𝓖 .A) (𝓜 .mem) (𝓡 .run)) 𝓜 𝓡 code.env #step step-def.routine code.calls-machine·step
+          cited 𝓤 H (Stepping 𝓤 H (𝓖 .A) (𝓜 .mem) (𝓡 .run)) 𝓜 𝓡 code.env #step step-def.routine code.calls-machine·step-by
           (step-thm.met 𝓤 H 𝓜 𝓖 𝓡);
       go-on = cited 𝓤 H (GoOn 𝓤 H (𝓖 .A) (𝓜 .mem) (𝓡 .run)) 𝓜 𝓡 code.env #go-on go-on-def.routine code.calls-run·go-on (go-on-thm.met 𝓤 H 𝓜 𝓖 𝓡);
       finish =
