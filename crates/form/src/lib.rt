@@ -293,7 +293,8 @@ pub fn fields_of(line: Line) -> Fields
     }
 }
 
-fn verb_of(form: usize, a: u32, b: u32, c: u32) -> Verb
+// The verb of a row, with its operands.
+pub fn verb_of(form: usize, a: u32, b: u32, c: u32) -> Verb
     ensures { λ r. ⌜ r ≡ verbOf form a b c ⌝ }
 {
     match form {

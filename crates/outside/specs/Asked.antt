@@ -2,21 +2,12 @@
 use mathlib.Core.List.{List, [], _∷_}
 use Prim.Native.Nat.{ℕ}
 use lib.ListN.{getD}
+use Rattle.form.specs.Line.{verbOf}
 use Rattle.step.specs.declared.Answer.{Answer}
 use Rattle.step.specs.declared.Answer.the-variants.{Dash, Ok, Value, Yes, No, None, Got, Refused}
 use Rattle.step.specs.declared.Step.{Step}
-use Rattle.step.specs.declared.Verb.{Verb}
-use Rattle.step.specs.declared.Verb.the-variants.{Get, Set, Load, Store, Swap, Put, Take, Go, GoAt}
 
--- the verbs in the order of their numbers, over three operands
-abbrev pub verbs : ℕ → ℕ → ℕ → List Verb
-verbs a b c = Get a b ∷ Set a b c ∷ Load a ∷ Store a b ∷ Swap a b c ∷ Put a ∷ Take ∷ Go ∷ []
-
--- 8 and above: go with a stamp.
-unfoldable pub verbOf : ℕ → ℕ → ℕ → ℕ → Verb
-verbOf n a b c = getD (verbs a b c) n (GoAt a)
-
--- A step is asked as thread, verb and three operands; a number that is lacking is 0.
+-- A step is asked as thread, row of the table of line forms and three operands; a number that is lacking is 0.
 unfoldable pub stepAsked : List ℕ → Step
 stepAsked s = record { thread = getD s 0 0; verb = verbOf (getD s 1 0) (getD s 2 0) (getD s 3 0) (getD s 4 0) }
 

@@ -4,7 +4,7 @@ use Prim.Native.Nat.{ℕ}
 use Rattle.rules.specs.Step.{Outcome, stepOf}
 use Rattle.number.specs.Buffer.{placed}
 use Rattle.outside.specs.Asked.{stepAsked, answerWords}
-use Rattle.outside.specs.Image.{wordsOf, machineOf}
+use Rattle.image.specs.Image.{wordsOf, machineOf}
 use Rattle.writes.specs.declared.Write.{Write}
 
 pub record Lent : Type 0 where

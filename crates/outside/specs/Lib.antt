@@ -1,4 +1,2 @@
-pub mod Image
 pub mod Asked
 pub mod Call
-pub mod Promise

@@ -10,7 +10,7 @@ ghost use Rattle.published.specs.Follows.{TakenFollows, AllowedTaken, OneEvent,
 ghost use Rattle.rules.specs.Queue.{QueueHolds};
 ghost use Rattle.rules.specs.Reached.{ReachedHolds};
 ghost use Rattle.run.specs.Promise.{ReportShort, ReportWhole};
-ghost use Rattle.outside.specs.Promise.{ImageLong, ImageFaithful};
+ghost use Rattle.image.specs.Promise.{ImageLong, ImageFaithful};
 ghost use Rattle.promises.specs.Writing.{WrittenBack, OnlyItsBytes, RefusedUntouched, PrintedUntouched};
 
 // Each number has one text, and the readers take those texts only.

@@ -1,3 +1,2 @@
-pub mod Calling
 pub mod Held
 pub mod Determined

@@ -1,4 +1,4 @@
-use Rattle.outside.proofs.Faithful.{image-long, image-faithful}
+use Rattle.image.proofs.Faithful.{image-long, image-faithful}
 use Rattle.promises.proofs.images_are_faithful.Statement.{statement}
 use Rattle.promises.proofs.images_are_faithful.Tie as tie
 

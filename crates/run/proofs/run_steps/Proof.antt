@@ -62,8 +62,8 @@ use Rattle.run.proofs.Ahead.Laws as A″
 use Rattle.state.proofs.Machine as Q
 use Rattle.state.proofs.Machine.Laws as Q′
 use Rattle.state.specs.declared.Machine.{Machine}
-use Rattle.writes.proofs.Again.{LentAgain, lends-again, comes-back}
-use Rattle.writes.proofs.Arrays.{to-cells, from-cells, big-lit}
+use Rattle.walks.proofs.Again.{LentAgain, lends-again, comes-back}
+use Rattle.walks.proofs.Arrays.{to-cells, from-cells, big-lit}
 use Rattle.writes.proofs.Lent.{lent-at, write-vals}
 use Rattle.writes.proofs.Write as T
 use Rattle.writes.proofs.Write.Laws as T′

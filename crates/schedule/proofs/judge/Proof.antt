@@ -48,7 +48,7 @@ use Rattle.line.specs.declared.LineRead.{LineRead}
 use Rattle.line.proofs.LineRead as N
 use Rattle.line.proofs.LineRead.Laws as N′
 use Rattle.reader.specs.declared.Reader.{Reader}
-use Rattle.reader.proofs.Calling.{Met, none, one, two, enters, asks, asks-plain, leaves, calls-known, calls-known-last, calls-values}
+use Rattle.walks.proofs.Calling.{Met, none, one, two, enters, asks, asks-plain, leaves, calls-known, calls-known-last, calls-known-values as calls-values}
 use Rattle.reader.proofs.Held.{at-place, is-at, spelled, B, S, reader-tells, twice, typed-local}
 use Rattle.reader.proofs.Reader.Laws as T′
 use Rattle.reader.proofs.on as on

@@ -1,0 +1,1 @@
+// What walks by hand share; no code.
