@@ -90,7 +90,7 @@ fn show_cases(text: &[u8]) {
 
 fn show_whole(name: &[u8], text: &[u8]) {
     io::write_all(1, name);
-    match schedule::judge(text) {
+    match judging::judge(text) {
         Judged::Taken(_) => {
             io::write_all(1, b" taken\n");
         }

@@ -374,7 +374,7 @@ fn report_run(text: &[u8], s: Sections, out: &mut [u8]) -> Reported
 pub fn report(text: &[u8], out: &mut [u8]) -> Reported
     ensures { λ r. ⌜ Reports (reported (now (text .entry))) (now (out .entry)) r (now (out .exit)) ⌝ }
 {
-    match schedule::judge(text) {
+    match judging::judge(text) {
         Judged::Taken(s) => report_run(text, s, out),
         Judged::Refused(r) => {
             let first = text_line(r);

@@ -1,11 +1,11 @@
-// The whole text of a schedule: judged from the front, section by section, one line at a time from a reader.
+// The sections of a schedule's text: what is found of them and which line is due, one line passed at a time.
 use fault::Refusal;
 use form::Due;
 use form::Header;
 use form::Line;
 use line::LineRead;
 ghost use mathlib.Core.Path.{_≡_};
-ghost use Rattle.schedule.specs.Sections.{countIn, judged};
+ghost use Rattle.schedule.specs.Sections.{countIn};
 ghost use Rattle.schedule.specs.Judging.{stopped, begun, lineDue, dueIn, linesUnder, noted, goesOn, nextHeader, settled, opened, afterLine, endedAt};
 
 // So many lines, and the place of the first of them.
@@ -37,13 +37,13 @@ pub enum Passed {
 
 // How far a text is judged: whether a line is due, and at which place; the section in hand and how many lines of it are left (where none
 // is, its header line is due); what was found so far; and, once no line is due, what was passed last.
-struct Progress {
-    on: bool,
-    at: usize,
-    section: Header,
-    left: u32,
-    found: Sections,
-    last: Passed,
+pub struct Progress {
+    pub on: bool,
+    pub at: usize,
+    pub section: Header,
+    pub left: u32,
+    pub found: Sections,
+    pub last: Passed,
 }
 
 // The count that a header line gives.
@@ -58,7 +58,7 @@ fn count_in(line: Line) -> u32
 }
 
 // Before the first line of a text of a length.
-fn begin(len: usize) -> Progress
+pub fn begin(len: usize) -> Progress
     ensures { λ r. ⌜ r ≡ begun len ⌝ }
 {
     let none = Section { count: 0, at: 0 };
@@ -112,7 +112,7 @@ fn line_due(h: Header) -> Due
 }
 
 // The line that is due.
-fn due_in(g: Progress) -> Due
+pub fn due_in(g: Progress) -> Due
     ensures { λ r. ⌜ r ≡ dueIn g ⌝ }
 {
     let h = g.section;
@@ -228,7 +228,7 @@ fn open_section(h: Header, n: u32, at: usize, found: Sections) -> Progress
 }
 
 // The line that was due is read.
-fn pass_line(g: Progress, l: LineRead) -> Progress
+pub fn pass_line(g: Progress, l: LineRead) -> Progress
     ensures { λ r. ⌜ r ≡ afterLine g l ⌝ }
 {
     let h = g.section;
@@ -246,7 +246,7 @@ fn pass_line(g: Progress, l: LineRead) -> Progress
 }
 
 // The end of a text of a length, once no line is due.
-fn end_text(g: Progress, len: usize) -> Judged
+pub fn end_text(g: Progress, len: usize) -> Judged
     ensures { λ r. ⌜ r ≡ endedAt g len ⌝ }
 {
     let last = g.last;
@@ -261,18 +261,4 @@ fn end_text(g: Progress, len: usize) -> Judged
         }
         Passed::Stuck(f) => Judged::Refused(f),
     }
-}
-
-// A text of any bytes and any length, judged.
-pub fn judge(text: &[u8]) -> Judged
-    ensures { λ r. ⌜ r ≡ judged (now (text .entry)) ⌝ }
-{
-    let mut r = reader::on(text);
-    let mut g = begin(text.len());
-    while g.on {
-        let l = reader::next_line(r, due_in(g));
-        g = pass_line(g, l);
-        r = reader::moved(r, g.at);
-    }
-    end_text(g, text.len())
 }

@@ -1,4 +1,4 @@
--- `schedule::judge` meets its contract: a walk of its MIR by hand, since its locals hold readers. A turn of the loop asks what is due, reads
+-- `judging::judge` meets its contract: a walk of its MIR by hand, since its locals hold readers. A turn of the loop asks what is due, reads
 -- that line, passes it and moves the reader on. What remains to be judged stays what the whole text is judged, and what is left to read
 -- falls (`Judging`); no field of `Progress` is named but the two that the code names. Assumes nothing.
 use mathlib.Core.Path.{_≡_, refl, sym, _∙_}
@@ -63,36 +63,36 @@ use Rattle.reader.proofs.moved as moved
 use Rattle.reader.proofs.moved.Symbol as moved-def
 use Rattle.reader.proofs.moved.Symbol.{name as #moved}
 use Rattle.reader.proofs.moved.Met as moved-thm
 use Rattle.schedule.specs.Judging.{begun, dueIn, afterLine, endedAt}
 use Rattle.schedule.specs.Sections.{judged}
 use Rattle.schedule.specs.declared.Judged.{Judged}
 use Rattle.schedule.specs.declared.Progress.{Progress}
 use Rattle.schedule.proofs.Judging.{begun-at, remains, remains-all, remains-line, remains-end, unread, unread-falls}
 use Rattle.schedule.proofs.Judged as J
 use Rattle.schedule.proofs.Judged.Laws as J′
 use Rattle.schedule.proofs.Progress as P
 use Rattle.schedule.proofs.Progress.Laws as P′
 use Rattle.schedule.proofs.begin as begin
 use Rattle.schedule.proofs.begin.Symbol as begin-def
 use Rattle.schedule.proofs.begin.Symbol.{name as #begin}
 use Rattle.schedule.proofs.begin.Met as begin-thm
 use Rattle.schedule.proofs.due_in as due
 use Rattle.schedule.proofs.due_in.Symbol as due-def
 use Rattle.schedule.proofs.due_in.Symbol.{name as #due}
 use Rattle.schedule.proofs.due_in.Met as due-thm
 use Rattle.schedule.proofs.pass_line as pass
 use Rattle.schedule.proofs.pass_line.Symbol as pass-def
 use Rattle.schedule.proofs.pass_line.Symbol.{name as #pass}
 use Rattle.schedule.proofs.pass_line.Met as pass-thm
 use Rattle.schedule.proofs.end_text as end
 use Rattle.schedule.proofs.end_text.Symbol as end-def
 use Rattle.schedule.proofs.end_text.Symbol.{name as #end}
 use Rattle.schedule.proofs.end_text.Met as end-thm
-use Rattle.schedule.proofs.judge.Key.{name as #key}
-use Rattle.schedule.proofs.judge as f
-use Rattle.schedule.proofs.judge.Statement as stated
-use Rattle.schedule.proofs.judge.Code as code
-use Rattle.schedule.proofs.judge.Code.Mir as mir
+use Rattle.judging.proofs.judge.Key.{name as #key}
+use Rattle.judging.proofs.judge as f
+use Rattle.judging.proofs.judge.Statement as stated
+use Rattle.judging.proofs.judge.Code as code
+use Rattle.judging.proofs.judge.Code.Mir as mir
 
 abbrev stayed : Stays (f.ended .signature .params) (f.ended .kept)
 stayed = (stay-none-slice (0 ∷ []) tt (plain (λ _. u8)) yes, tt)
