@@ -2,7 +2,7 @@
 use mathlib.Core.Path.{_≡_, refl, sym, ap, _∙_}
 use mathlib.Core.List.{List, [], _∷_}
 use mathlib.Core.Logic.{⊎-elim}
-use Prim.Native.Nat.{ℕ, zero, suc, _≤_, _<_, min}
+use Prim.Native.Nat.{ℕ, zero, suc, _≤_, _<_}
 use native.Mathlib.Nat.{not-suc-le-zero, le-of-suc-le-suc}
 use native.Mathlib.Omega.{arith}
 use lib.ListN.{length, getD, List·getD-eq-default}
@@ -18,20 +18,13 @@ any-default (x ∷ l) zero d e h = refl
 any-default (x ∷ l) (suc i) d e h = any-default l i d e (le-of-suc-le-suc h)
 
 -- from the last row on stands the last row
-bare-from : (i : ℕ) → bareForm ≤ i → formAt i ≡ bare
+pub bare-from : (i : ℕ) → bareForm ≤ i → formAt i ≡ bare
 unfolding formAt forms
 bare-from i h =
     ⊎-elim
     (λ (g : i < formTotal). ap (λ (k : ℕ). getD forms k bare) (let e : i ≡ bareForm = omega arith in e))
     (λ (g : formTotal ≤ i). List·getD-eq-default forms bare g)
     (split i formTotal)
-
-pub last-row : (i : ℕ) → formAt (min i bareForm) ≡ formAt i
-last-row i =
-    ⊎-elim
-    (λ (h : i < bareForm). ap formAt (omega arith))
-    (λ (h : bareForm ≤ i). bare-from (min i bareForm) (omega arith) ∙ sym (bare-from i h))
-    (split i bareForm)
 
 pub last-verb : (i a b c : ℕ) → 8 ≤ i → verbOf i a b c ≡ GoAt a
 unfolding verbOf

@@ -3,8 +3,8 @@ use step::MOST;
 use step::Step;
 use step::Verb;
 ghost use mathlib.Core.Path.{_≡_};
-ghost use Prim.Native.Nat.{min};
-ghost use Rattle.form.specs.Table.{formAt, bareForm};
+ghost use Prim.Native.Nat.{_+_, _<_};
+ghost use Rattle.form.specs.Table.{stepForms, formTotal, formAt};
 ghost use Rattle.form.specs.Range.{limited};
 ghost use Rattle.form.specs.Line.{leadKind, headerForm, stepFields, firstForm, formCount, dueOf, fieldsOf, verbOf, lineOf};
 
@@ -74,8 +74,8 @@ const STAMP: Kind = Kind::Thousandths;
 
 const VALUE: Kind = Kind::Thousandths;
 
-// The nine forms of a step after its thread, the six header lines, and what follows the weight of a weight line.
-const FORMS: [Form; FORM_TOTAL] = [
+// The nine forms of a step, after its thread.
+const FORMS: [Form; STEP_FORMS] = [
     Form(*b"get\0\0\0\0", CELL, STAMP, NOTHING),
     Form(*b"set\0\0\0\0", CELL, VALUE, STAMP),
     Form(*b"load\0\0\0", FLAG, NOTHING, NOTHING),
@@ -85,6 +85,10 @@ const FORMS: [Form; FORM_TOTAL] = [
     Form(*b"take\0\0\0", NOTHING, NOTHING, NOTHING),
     Form(*b"go\0\0\0\0\0", NOTHING, NOTHING, NOTHING),
     Form(*b"go\0\0\0\0\0", STAMP, NOTHING, NOTHING),
+];
+
+// The six header lines, and what follows the weight of a weight line.
+const HEADERS: [Form; FORM_TOTAL - STEP_FORMS] = [
     Form(*b"shape\0\0", Kind::Count(2, 2), NOTHING, NOTHING),
     Form(*b"threads", Kind::Count(1, 8), NOTHING, NOTHING),
     Form(*b"slots\0\0", Kind::Count(1, 16), NOTHING, NOTHING),
@@ -94,18 +98,31 @@ const FORMS: [Form; FORM_TOTAL] = [
     Form(*b"\0\0\0\0\0\0\0", NOTHING, NOTHING, NOTHING),
 ];
 
-fn row_of(i: usize) -> usize
-    ensures { λ r. ⌜ r ≡ min i bareForm ⌝ }
+fn step_form(i: usize) -> Form
+    requires { ⌜ i < stepForms ⌝ }
+    ensures { λ r. ⌜ r ≡ formAt i ⌝ }
 {
-    if i < BARE_FORM { i } else { BARE_FORM }
+    FORMS[i]
+}
+
+fn header_row(k: usize) -> Form
+    requires { ⌜ stepForms + k < formTotal ⌝ }
+    ensures { λ r. ⌜ r ≡ formAt (stepForms + k) ⌝ }
+{
+    HEADERS[k]
 }
 
 // A row of the table; past its end the last one.
 pub fn form_at(i: usize) -> Form
     ensures { λ r. ⌜ r ≡ formAt i ⌝ }
 {
-    let k = row_of(i);
-    FORMS[k]
+    if i < STEP_FORMS {
+        return step_form(i);
+    }
+    if i < BARE_FORM {
+        return header_row(i - STEP_FORMS);
+    }
+    header_row(BARE_FORM - STEP_FORMS)
 }
 
 // A number judged by its kind.
