@@ -8,13 +8,13 @@ use Rattle.form.specs.Range.{inRange, limited}
 use Rattle.form.specs.Table.{forms, formAt}
 use Rattle.laws.specs.Lists.{filled}
 use Rattle.laws.specs.Tests.{_and_, _or_, allBelow}
-use Rattle.line.specs.Operand.{word, spaced}
+use Rattle.operand.specs.Operand.{word, spaced}
 use Rattle.fault.specs.Refusal.{upToLF, lineAt}
 use Rattle.line.specs.Row.{formRow, findForm, dueRow, readLine}
 use Rattle.rules.specs.Access.{slotCell, foundBy, accessed}
 use Rattle.rules.specs.Calls.{goesOn, looks, swaps, closes, resumed, acted}
 use Rattle.rules.specs.Step.{takenBy, refusalOf, decidedOf, stepOf, contentOf}
-use Rattle.number.specs.Reading.{isDigit, digits, number, point, weight}
+use Rattle.digits.specs.Reading.{isDigit, digits, number, point, weight}
 use Rattle.number.specs.Text.{decimal, numberText, lastDigits, weightText}
 use Rattle.opening.specs.Opening.{weightsStand, givenRoom, statusesRoom, unmoved, fresh, openedOf}
 use Rattle.printed.specs.Printed.{spelled, fieldText, endedText, printedText, answerLine, linesText}

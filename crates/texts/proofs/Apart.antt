@@ -15,10 +15,10 @@ use Rattle.form.specs.declared.Kind.{Kind}
 use Rattle.form.specs.declared.Kind.the-variants.{Nothing, Count, Thousandths}
 use Rattle.texts.proofs.OnlyLines.{Fits, end-is}
 use Rattle.texts.proofs.Operands.{Formed, placeIn, after-word}
-use Rattle.line.specs.Operand.{spaced, operandAt, afterOperand, afterWord}
+use Rattle.operand.specs.Operand.{spaced, operandAt, afterOperand, afterWord}
 use Rattle.line.specs.Row.{closed, formRow}
-use Rattle.line.specs.declared.Operand.{Operand}
-use Rattle.line.specs.declared.Operand.the-variants.{Good, OutOfRange, NoForm}
+use Rattle.operand.specs.declared.Operand.{Operand}
+use Rattle.operand.specs.declared.Operand.the-variants.{Good, OutOfRange, NoForm}
 use Rattle.laws.proofs.Choice.{either, split, and-left, and-right}
 use Rattle.number.proofs.Standing.{stands-append, stands-left, stands-right}
 use Rattle.number.specs.Bytes.{Stands}

@@ -25,14 +25,14 @@ use Rattle.texts.proofs.ReadLines.{line-reads}
 use Rattle.texts.specs.Promise.{LineOneText}
 use Rattle.laws.proofs.Choice.{and-right}
 use Rattle.number.proofs.Decimal.{length-pow}
-use Rattle.number.proofs.Digits.{stop-bad, number-rest}
-use Rattle.number.proofs.ReadBack.{number-reads}
+use Rattle.digits.proofs.Digits.{stop-bad, number-rest}
+use Rattle.digits.proofs.ReadBack.{number-reads}
 use Rattle.number.proofs.Standing.{stands-left, stands-right}
 use Rattle.number.specs.Bytes.{Stands}
-use Rattle.number.specs.Reading.{isDigit, number}
+use Rattle.digits.specs.Reading.{isDigit, number}
 use Rattle.number.specs.Text.{numberText, lastDigits, weightText}
-use Rattle.number.specs.declared.Reading.{Reading}
-use Rattle.number.specs.declared.Reading.the-variants.{Got, Stopped}
+use Rattle.digits.specs.declared.Reading.{Reading}
+use Rattle.digits.specs.declared.Reading.the-variants.{Got, Stopped}
 
 -- what a line due begins with: a letter, or a number and the byte after it
 abbrev markOf : List ℕ → Reading → ℕ

@@ -28,7 +28,7 @@ use Rattle.line.specs.declared.LineRead.the-variants.{Took, Fault}
 use Rattle.laws.proofs.Choice.{either, and-left, and-right}
 use Rattle.number.proofs.Standing.{here-then, here-none, stands-whole}
 use Rattle.number.specs.Bytes.{Here}
-use Rattle.number.specs.Reading.{count}
+use Rattle.digits.specs.Reading.{count}
 use Rattle.texts.proofs.Lines.{text-append, range-both, range-cons, AllDue, weights-again, steps-again}
 use Rattle.texts.specs.Promise.{ScheduleOnlyText}
 use Rattle.texts.specs.Schedule.{linesOf, textOf, scheduleText, allInRange, HasText, also, linesFrom, weightIn, stepIn, scheduleOf, schedule, outcome, reads}

@@ -5,7 +5,7 @@ use lib.ListN.{length}
 use denote.Ref.{now}
 use Rattle.form.specs.Text.{operandText, wordText, formText}
 use Rattle.number.proofs.Stores.{wrote-then}
-use Rattle.writer.proofs.Laws.{length-form}
+use Rattle.measure.proofs.Widths.{length-form}
 use Rattle.writer.proofs.write_form.Statement.{statement}
 use Rattle.writer.proofs.write_form.Tie as tie
 
