@@ -23,7 +23,7 @@ use Rattle.refusal.specs.Refusal.{among, refusalBy}
 use Rattle.run.specs.Report.{queueLines, rankLines, refusedLines, runLines, runOf, reported, reportText}
 use Rattle.run.specs.Run.{ran}
 use Rattle.texts.specs.Schedule.{linesFrom, scheduleOf, reads}
-use Rattle.schedule.specs.Sections.{linesPast, sections, judged}
+use Rattle.schedule.specs.Sections.{linesPast, through, sections, judged}
 use Rattle.standing.specs.Stands.{inShape, shapeStands, sizesStand, placeStands, threadStands, threadsStand, firstsStand, atomicStands, atomicsStand, cellsStand, partsStand, stands}
 use Rattle.state.specs.State.{cellsOf, row, withRow, place, withPlace, atomicAt, withAtomic, firstOf}
 use Rattle.view.specs.View.{stampOf, withStamp, joinTo, joined, viewStands}
@@ -31,5 +31,5 @@ use Rattle.writes.specs.History.{shownBy, found, newer, newest, recordStands, r
 use Rattle.writes.specs.Records.{recorded}
 
 pub starred-hold : StarredHold
-unfolding table reply held endOf reportText reported runLines runOf queueLines rankLines refusedLines ran spelled fieldText endedText printedText answerLine linesText decimal numberText lastDigits weightText linesFrom scheduleOf reads linesPast sections judged verbOf inRange limited forms formAt word spaced upToLF lineAt formRow findForm dueRow readLine isDigit digits number point weight openedOf fresh unmoved givenRoom statusesRoom filled weightsStand stepOf decidedOf refusalOf refusalBy takenBy acted resumed looks swaps closes goesOn readAtomic writeAtomic swappedOf met told joined joinTo stampOf withStamp row withRow place withPlace atomicAt withAtomic firstOf cellsOf slotCell slotOf nextRank freeStatus fullStatus lapped foundBy accessed recorded found shownBy newest newer among stands sizesStand shapeStands inShape partsStand threadsStand threadStands placeStands firstsStand cellsStand atomicsStand atomicStands viewStands recordsStand recordStands allBelow _and_ _or_ contentOf
+unfolding table reply held endOf reportText reported runLines runOf queueLines rankLines refusedLines ran spelled fieldText endedText printedText answerLine linesText decimal numberText lastDigits weightText linesFrom scheduleOf reads linesPast through sections judged verbOf inRange limited forms formAt word spaced upToLF lineAt formRow findForm dueRow readLine isDigit digits number point weight openedOf fresh unmoved givenRoom statusesRoom filled weightsStand stepOf decidedOf refusalOf refusalBy takenBy acted resumed looks swaps closes goesOn readAtomic writeAtomic swappedOf met told joined joinTo stampOf withStamp row withRow place withPlace atomicAt withAtomic firstOf cellsOf slotCell slotOf nextRank freeStatus fullStatus lapped foundBy accessed recorded found shownBy newest newer among stands sizesStand shapeStands inShape partsStand threadsStand threadStands placeStands firstsStand cellsStand atomicsStand atomicStands viewStands recordsStand recordStands allBelow _and_ _or_ contentOf
 starred-hold = refl

@@ -14,7 +14,7 @@ use Rattle.form.specs.declared.Line.the-variants.{HeaderLine, WeightLine}
 use Rattle.laws.proofs.Choice.{and-left, and-right}
 use Rattle.texts.proofs.Lines.{range-head, range-right, range-tail}
 use Rattle.texts.proofs.OnlySchedules.{schedule-only-text}
-use Rattle.texts.specs.Schedule.{Schedule, allInRange, linesOf, reads, schedule, scheduleOf, weightsAt}
+use Rattle.texts.specs.Schedule.{Schedule, allInRange, linesFor, linesOf, reads, schedule, scheduleOf, weightsAt}
 use Rattle.schedule.specs.Sections.{judged}
 use Rattle.schedule.specs.declared.Judged.the-variants.{Taken}
 use Rattle.schedule.specs.declared.Sections.{Sections}
@@ -28,7 +28,7 @@ unfolding lineInRange fieldsInRange inRange formAt forms
 flag-fits n e = leb-true n 8 (and-right (leb 0 n) (leb n 8) (and-left (leb 0 n && leb n 8) true e))
 
 lines-fit : (x : Schedule) → allInRange (linesOf x) ≡ true → (length (x .plain) ≤ 16) × (length (x .flag) ≤ 8)
-unfolding linesOf
+unfolding linesOf linesFor
 lines-fit x e =
     let at-plain = range-tail _ _ (range-tail _ _ (range-tail _ _ e)) in
     let at-flag = range-right (map WeightLine (x .plain)) _ (range-tail _ _ at-plain) in

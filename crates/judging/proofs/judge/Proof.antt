@@ -292,7 +292,7 @@ module _ {M : Type 1} (𝓤 : URA M) (H : Heap 𝓤) (A : Atoms 𝓤) (W : Given
         land-last ! (from ! (stop !)) (store ! 17 refl (typed-local κ 𝓤 H A W (h (then g)) pm)) $
         move ! (1 ∷ 2 ∷ []) $ forget ! 3 refl $ forget ! 5 refl $ forget ! 7 refl $ forget ! 9 refl $ forget ! 13 refl $
         again ! ≺ I s (then g, (remains-line t g e ∙ s .1 .0, pg)) (unread-falls g (line g) e (LL.owed P.the-type P′.the-laws (then g) _
-        pg .1 .1 .1 .0 .1)))))))
+        pg .1 .1 .1 .1 .0 .1)))))))
     turn s false e =
         let g = s .0 in
         assigns ! (of-opd ! (load ! (from ! (fld ! refl (stop !))) (look-in ! 15 (sub ! 0 refl (whole !))))) (from ! (stop !))
