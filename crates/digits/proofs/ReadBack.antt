@@ -8,15 +8,12 @@ use native.Mathlib.Nat.{zero-add, not-suc-le-zero, add-zero}
 use native.Mathlib.Omega.{arith}
 use borrow.Author.Tests.{le-leb}
 use lib.ListN.{length, getD, List·getD-append}
-use lib.Seq.{sets}
 use Rattle.laws.proofs.Choice.{split}
 use Rattle.number.proofs.Decimal.{by-tens, text-small, text-big, length-snoc, length-weight, length-pow}
 use Rattle.digits.proofs.Digits.{step-yes, stop-got, step-end, number-zero, number-rest, weight-more}
 use Rattle.number.proofs.Standing.{stands-left, stands-right}
-use Rattle.number.proofs.Stores.{after-sets, stands-sets, placed-fits}
-use Rattle.number.specs.Buffer.{placed}
 use Rattle.number.specs.Bytes.{Stands}
-use Rattle.digits.specs.Reading.{isDigit, digits, number, count, weight}
+use Rattle.digits.specs.Reading.{isDigit, digits, number, weight}
 use Rattle.number.specs.Text.{numberText, lastDigits, weightText}
 use Rattle.digits.specs.declared.Reading.the-variants.{Got}
 
@@ -116,17 +113,3 @@ weight-reads s at v h st =
     ∙ step-end 0 0 s _ _ refl
     ∙ (λ i. Got ((let e : valueOf (v / 1000) (lastDigits 3 v) ≡ v = omega arith in e) i)
     ((let e : p + 1 + 3 ≡ at + length (weightText v) = omega (arith, length-weight v) in e) i))
-
--- a number or a weight that was written is read back
-pub count-written : (l : List ℕ) (at v : ℕ) → v < 10 ^ 4 → at + length (numberText v) ≤ length l
-    → isDigit (getD l (at + length (numberText v)) 0) ≡ false → count (placed l at (numberText v)) at ≡ Got v (at + length (numberText v))
-count-written l at v h f d =
-    let t = numberText v in
-    rw (placed-fits l at t f)
-    (number-reads 4 (sets l at t) at v (length-pow 3 v h) (stands-sets t l at f)
-    (ap isDigit (after-sets t l at (at + length t) (omega arith)) ∙ d))
-
-pub weight-written : (l : List ℕ) (at v : ℕ) → v < 10 ^ 10 → at + length (weightText v) ≤ length l
-    → weight (placed l at (weightText v)) at ≡ Got v (at + length (weightText v))
-weight-written l at v h f =
-    rw (placed-fits l at (weightText v) f) (weight-reads (sets l at (weightText v)) at v h (stands-sets (weightText v) l at f))

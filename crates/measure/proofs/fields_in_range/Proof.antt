@@ -9,21 +9,6 @@ use Rattle.measure.proofs.Widths.{and-taken, and-untaken}
 use Rattle.measure.proofs.fields_in_range.Statement.{statement}
 use Rattle.measure.proofs.fields_in_range.Tie as tie
 
-form-at-requires : tie.Need-form-at-requires
-form-at-requires c κs = search needs
-
-in-range-requires : tie.Need-in-range-requires
-in-range-requires c κs = search needs
-
-in-range-requires-2 : tie.Need-in-range-requires-2
-in-range-requires-2 c κs = search needs
-
-in-range-requires-3 : tie.Need-in-range-requires-3
-in-range-requires-3 c κs = search needs
-
-in-range-requires-4 : tie.Need-in-range-requires-4
-in-range-requires-4 c κs = search needs
-
 -- the tests up to the first operand, and up to the second
 upto-a : (c : tie.Joined1) → let s = c .before .before .before .args in
     c .if1 .if2 ≡ (inRange (s .lead) (s .f .lead) && inRange (kindA (s .f .form)) (s .f .a))
@@ -57,10 +42,10 @@ pub fields-in-range-spec : {M : Type 1} → statement M
 fields-in-range-spec =
     tie.close
     (tie.spec
-    form-at-requires
-    in-range-requires
-    in-range-requires-2
-    in-range-requires-3
-    in-range-requires-4
+    (λ c κs. search needs)
+    (λ c κs. search needs)
+    (λ c κs. search needs)
+    (λ c κs. search needs)
+    (λ c κs. search needs)
     returns
     returns-2)

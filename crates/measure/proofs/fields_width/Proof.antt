@@ -6,12 +6,6 @@ use Rattle.measure.proofs.Widths.{lead-short, form-short}
 use Rattle.measure.proofs.fields_width.Statement.{statement}
 use Rattle.measure.proofs.fields_width.Tie as tie
 
-lead-width-requires : tie.Need-lead-width-requires
-lead-width-requires c κs = search needs
-
-form-width-requires : tie.Need-form-width-requires
-form-width-requires c κs = search needs
-
 add-result : tie.Need-add-result
 add-result c =
     let s = c .before .before in let f = s .args .f in
@@ -26,4 +20,4 @@ unfolding fieldsText
 returns c = rw (length-append, c .before .lead-width .ensures, c .form-width .ensures)
 
 pub fields-width-spec : {M : Type 1} → statement M
-fields-width-spec = tie.close (tie.spec lead-width-requires form-width-requires add-result returns)
+fields-width-spec = tie.close (tie.spec (λ c κs. search needs) (λ c κs. search needs) add-result returns)

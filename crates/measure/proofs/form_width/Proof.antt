@@ -6,24 +6,6 @@ use Rattle.measure.proofs.Widths.{length-form, form-short}
 use Rattle.measure.proofs.form_width.Statement.{statement}
 use Rattle.measure.proofs.form_width.Tie as tie
 
-form-at-requires : tie.Need-form-at-requires
-form-at-requires c κs = search needs
-
-slice-aggregate-word-width : tie.Need-slice-aggregate-word-width
-slice-aggregate-word-width c = search needs
-
-word-width-requires : tie.Need-word-width-requires
-word-width-requires c κs = search needs
-
-operand-width-requires : tie.Need-operand-width-requires
-operand-width-requires c κs = search needs
-
-operand-width-requires-2 : tie.Need-operand-width-requires-2
-operand-width-requires-2 c κs = search needs
-
-operand-width-requires-3 : tie.Need-operand-width-requires-3
-operand-width-requires-3 c κs = search needs
-
 returns : tie.Need-returns
 returns c =
     let y = c .before in let x = y .before in let w = x .before in
@@ -52,12 +34,12 @@ pub form-width-spec : {M : Type 1} → statement M
 form-width-spec =
     tie.close
     (tie.spec
-    form-at-requires
-    slice-aggregate-word-width
-    word-width-requires
-    operand-width-requires
-    operand-width-requires-2
-    operand-width-requires-3
+    (λ c κs. search needs)
+    (λ c. search needs)
+    (λ c κs. search needs)
+    (λ c κs. search needs)
+    (λ c κs. search needs)
+    (λ c κs. search needs)
     add-result
     add-result-2
     add-result-3

@@ -5,23 +5,8 @@ use Rattle.measure.proofs.Widths.{number-short, weight-short}
 use Rattle.measure.proofs.operand_width.Statement.{statement}
 use Rattle.measure.proofs.operand_width.Tie as tie
 
-enum-told : tie.Need-enum-told
-enum-told c = search needs
-
-enum-told-2 : tie.Need-enum-told-2
-enum-told-2 c = search needs
-
-number-width-requires : tie.Need-number-width-requires
-number-width-requires c κs = search needs
-
 add-result : tie.Need-add-result
 add-result c = let s = c .before .before .before in omega (arith, number-short (s .args .v) (s .fits .v .fits))
-
-enum-told-3 : tie.Need-enum-told-3
-enum-told-3 c = search needs
-
-weight-width-requires : tie.Need-weight-width-requires
-weight-width-requires c κs = search needs
 
 add-result-2 : tie.Need-add-result-2
 add-result-2 c = let s = c .before .before .before in omega (arith, weight-short (s .args .v) (s .fits .v .fits))
@@ -42,12 +27,12 @@ pub operand-width-spec : {M : Type 1} → statement M
 operand-width-spec =
     tie.close
     (tie.spec
-    enum-told
-    enum-told-2
-    number-width-requires
+    (λ c. search needs)
+    (λ c. search needs)
+    (λ c κs. search needs)
     add-result
-    enum-told-3
-    weight-width-requires
+    (λ c. search needs)
+    (λ c κs. search needs)
     add-result-2
     returns
     returns-2

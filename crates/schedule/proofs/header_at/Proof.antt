@@ -9,9 +9,6 @@ use Rattle.schedule.specs.Sections.{headers}
 use Rattle.schedule.proofs.header_at.Statement.{statement}
 use Rattle.schedule.proofs.header_at.Tie as tie
 
-array-copy-out-result : tie.Need-array-copy-out-result
-array-copy-out-result c = search needs
-
 returns : tie.Need-returns
 returns c = any-default headers (c .before .before .args .k) _ Steps (c .before .if1 .taken)
 
@@ -19,4 +16,4 @@ returns-2 : tie.Need-returns-2
 returns-2 c = sym (List·getD-eq-default headers Steps (let h : length headers ≤ c .before .args .k = omega (arith, c .if1 .left) in h))
 
 pub header-at-spec : {M : Type 1} → statement M
-header-at-spec = tie.close (tie.spec array-copy-out-result returns returns-2)
+header-at-spec = tie.close (tie.spec (λ c. search needs) returns returns-2)
