@@ -11,6 +11,7 @@ use Rattle.laws.specs.Tests.{_and_, _or_, allBelow}
 use Rattle.line.specs.Operand.{word, spaced}
 use Rattle.fault.specs.Refusal.{upToLF, lineAt}
 use Rattle.line.specs.Row.{formRow, findForm, dueRow, readLine}
+use Rattle.refusal.specs.Refusal.{refusalBy}
 use Rattle.rules.specs.Access.{slotCell, foundBy, accessed}
 use Rattle.rules.specs.Calls.{goesOn, looks, swaps, closes, resumed, acted}
 use Rattle.rules.specs.Step.{takenBy, refusalOf, decidedOf, stepOf, contentOf}
@@ -19,13 +20,13 @@ use Rattle.number.specs.Text.{decimal, numberText, lastDigits, weightText}
 use Rattle.opening.specs.Opening.{weightsStand, givenRoom, statusesRoom, unmoved, fresh, openedOf}
 use Rattle.printed.specs.Printed.{spelled, fieldText, endedText, printedText, answerLine, linesText}
 use Rattle.rank.specs.Rank.{slotOf, nextRank, freeStatus, fullStatus, lapped}
-use Rattle.refusal.specs.Refusal.{among, refusalBy}
 use Rattle.run.specs.Report.{queueLines, rankLines, refusedLines, runLines, runOf, reported, reportText}
 use Rattle.run.specs.Run.{ran}
 use Rattle.texts.specs.Schedule.{linesFrom, scheduleOf, reads}
 use Rattle.schedule.specs.Sections.{linesPast, sections, judged}
 use Rattle.standing.specs.Stands.{inShape, shapeStands, sizesStand, placeStands, threadStands, threadsStand, firstsStand, atomicStands, atomicsStand, cellsStand, partsStand, stands}
 use Rattle.state.specs.State.{cellsOf, row, withRow, place, withPlace, atomicAt, withAtomic, firstOf}
+use Rattle.verbs.specs.Verbs.{among}
 use Rattle.view.specs.View.{stampOf, withStamp, joinTo, joined, viewStands}
 use Rattle.writes.specs.History.{shownBy, found, newer, newest, recordStands, recordsStand}
 use Rattle.writes.specs.Records.{recorded}

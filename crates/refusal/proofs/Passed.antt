@@ -5,11 +5,14 @@ use Prim.Native.Nat.{ℕ, zero, suc, _-_, _<_, _≤_}
 use native.Mathlib.Omega.{arith}
 use borrow.Author.Tests.{leb-true, leb-false, ltb-false, eqb-true, eq-eqb, le-leb, lt-leb, le-ltb, not-false}
 use lib.Dec.{leb, ltb, eqb}
-use Rattle.refusal.specs.Refusal.{refuse, among, asks, dueAt, named, greatest, full, outdated, amiss, refusalBy}
+use Rattle.accesses.specs.Accesses.{full, outdated, amiss}
+use Rattle.places.specs.Places.{dueAt}
+use Rattle.refusal.specs.Refusal.{refuse, refusalBy}
 use Rattle.state.specs.State.{row, place}
 use Rattle.state.specs.declared.Machine.{Machine}
 use Rattle.step.specs.Limit.{most}
 use Rattle.step.specs.declared.Step.{Step}
+use Rattle.verbs.specs.Verbs.{among, asks, named, greatest}
 use Rattle.writes.specs.declared.Access.{Access}
 use Rattle.writes.specs.declared.Found.{Found}
 

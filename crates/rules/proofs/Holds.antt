@@ -5,6 +5,7 @@ use mathlib.Core.Option.{Option, none, some}
 use Prim.Native.Nat.{ℕ, _+_, _-_}
 use native.Mathlib.Omega.{arith}
 use borrow.Author.Tests.{ltb-false}
+use Rattle.accesses.specs.Accesses.{outdated, amiss}
 use Rattle.rules.proofs.Refused.{numbered}
 use Rattle.rules.specs.Access.{slotCell, stampedAt, foundBy}
 use Rattle.rules.specs.Step.{asked, refusalOf}
@@ -21,7 +22,6 @@ use Rattle.rules.specs.Queue.{CoversPutter, goAt, Taken, Queue, QueueHol
 use Rattle.rules.specs.Reached.{AllInHistory, NonePast, Reached, ReachedHolds}
 use Rattle.rank.specs.Rank.{slotOf}
 use Rattle.refusal.proofs.Passed.{passed}
-use Rattle.refusal.specs.Refusal.{outdated, amiss}
 use Rattle.standing.proofs.Bounds.{bounds}
 use Rattle.state.specs.State.{cellsOf, row, place, firstOf}
 use Rattle.state.specs.declared.Place.{Place}

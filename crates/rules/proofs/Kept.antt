@@ -13,12 +13,12 @@ use Rattle.rules.proofs.Accessed.{accessed-shape}
 use Rattle.refusal.proofs.Passed.{Passed, passed}
 use Rattle.rules.specs.Kept.{StandingKept}
 use Rattle.rules.specs.Access.{foundBy, accessed}
-use Rattle.refusal.specs.Refusal.{named}
 use Rattle.rules.specs.Step.{takenBy, decidedBy, asked, refusalOf, decidedOf, stepOf}
 use Rattle.standing.specs.Stands.{rankOf, stands}
 use Rattle.state.specs.State.{place}
 use Rattle.state.specs.declared.Machine.{Machine}
 use Rattle.step.specs.declared.Step.{Step}
+use Rattle.verbs.specs.Verbs.{named}
 use Rattle.writes.specs.Records.{recorded}
 use Rattle.writes.specs.declared.Access.{Access}
 use Rattle.writes.specs.declared.Found.{Found}

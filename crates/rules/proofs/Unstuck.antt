@@ -8,13 +8,15 @@ use native.Mathlib.Omega.{arith}
 use borrow.Author.Tests.{le-ltb, not-false}
 use lib.Dec.{leb, ltb, eqb}
 use lib.ListN.{length}
+use Rattle.accesses.specs.Accesses.{full, outdated, present, amiss}
+use Rattle.places.specs.Places.{dueAt}
+use Rattle.refusal.specs.Refusal.{refuse, refusalBy}
 use Rattle.rules.proofs.Refused.{numbered}
 use Rattle.rules.specs.Access.{slotCell, stampedAt, accessOf, foundBy}
 use Rattle.rules.specs.Step.{asked, refusalOf, stepOf}
 use Rattle.rules.proofs.Ranks.{slot-in}
 use Rattle.rules.proofs.Recalled.{Recalled}
 use Rattle.refusal.proofs.Passed.{among-some}
-use Rattle.refusal.specs.Refusal.{refuse, among, asks, dueAt, named, greatest, full, outdated, present, amiss, refusalBy}
 use Rattle.standing.proofs.Bounds.{Bounds}
 use Rattle.standing.specs.Stands.{stands}
 use Rattle.state.specs.State.{cellsOf, row, place, firstOf}
@@ -26,6 +28,7 @@ use Rattle.step.specs.Limit.{most}
 use Rattle.step.specs.declared.Step.{Step}
 use Rattle.step.specs.declared.Verb.{Verb}
 use Rattle.step.specs.declared.Verb.the-variants.{Get, Set, Load, Store, Swap, Put, Take, Go, GoAt}
+use Rattle.verbs.specs.Verbs.{among, asks, named, greatest}
 use Rattle.view.specs.View.{stampOf}
 use Rattle.writes.specs.declared.Access.{Access}
 use Rattle.writes.specs.declared.Access.the-variants.{NoAccess, Reads, Writes}

@@ -22,7 +22,6 @@ use Rattle.rules.specs.Step.{asked, contentIf, contentOf, decidedBy, decidedOf,
 use Rattle.printed.proofs.Fits.{InRange}
 use Rattle.rank.specs.Rank.{fullStatus}
 use Rattle.refusal.proofs.Passed.{Passed, passed}
-use Rattle.refusal.specs.Refusal.{named}
 use Rattle.standing.specs.Stands.{stands, weightOf}
 use Rattle.state.specs.State.{atomicAt, cellsOf, firstOf, place}
 use Rattle.state.specs.declared.Machine.{Machine}
@@ -35,6 +34,7 @@ use Rattle.step.specs.declared.Answer.the-variants.{No, None}
 use Rattle.step.specs.declared.Step.{Step}
 use Rattle.step.specs.declared.Verb.{Verb}
 use Rattle.step.specs.declared.Verb.the-variants.{Get, Go, GoAt, Load, Put, Set, Store, Swap, Take}
+use Rattle.verbs.specs.Verbs.{named}
 use Rattle.writes.specs.History.{newer, newest, newestIf, recordStands, recordsStand}
 use Rattle.writes.specs.Records.{recorded}
 use Rattle.writes.specs.declared.Access.{Access}

@@ -7,6 +7,9 @@ use mathlib.Core.Logic.{_⊎_, inl, inr, ⊎-elim}
 use mathlib.Core.Path.{_∙_, _≡_, ap, refl, sym}
 use native.Mathlib.Omega.{arith}
 use lib.Dec.{eqb, leb, ltb}
+use Rattle.accesses.specs.Accesses.{amiss, full, outdated}
+use Rattle.places.specs.Places.{dueAt}
+use Rattle.refusal.specs.Refusal.{refusalBy, refuse}
 use Rattle.rules.proofs.Fresh.{refused-falls}
 use Rattle.rules.proofs.Refused.{numbered, taken-counts}
 use Rattle.rules.proofs.Standing.{standing}
@@ -21,7 +24,6 @@ use Rattle.printed.specs.Printed.{linesText, printedText}
 use Rattle.rules.proofs.Begun.{fresh-sound}
 use Rattle.rules.proofs.Sound.{Sound, run}
 use Rattle.rules.specs.Notes.{Point, next, start, through}
-use Rattle.refusal.specs.Refusal.{among, amiss, asks, dueAt, full, greatest, named, outdated, refusalBy, refuse}
 use Rattle.run.proofs.Answers.{passed-all, taken-in}
 use Rattle.run.specs.Report.{toldLine}
 use Rattle.run.specs.Run.{Run, Told, goesOnAfter, ran, stops}
@@ -33,6 +35,7 @@ use Rattle.step.specs.Answer.{numberOf}
 use Rattle.step.specs.Limit.{most}
 use Rattle.step.specs.declared.Answer.the-variants.{Ok}
 use Rattle.step.specs.declared.Step.{Step}
+use Rattle.verbs.specs.Verbs.{among, asks, greatest, named}
 use Rattle.writes.specs.declared.Access.{Access}
 use Rattle.writes.specs.declared.Found.{Found}
 use Rattle.writes.specs.declared.Write.{Write}

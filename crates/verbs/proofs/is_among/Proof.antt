@@ -1,9 +1,9 @@
 use mathlib.Core.Path.{_≡_, refl}
 use Prim.Native.Nat.{ℕ, zero, suc}
 use lib.Dec.{leb}
-use Rattle.refusal.specs.Refusal.{among}
-use Rattle.refusal.proofs.is_among.Statement.{statement}
-use Rattle.refusal.proofs.is_among.Tie as tie
+use Rattle.verbs.specs.Verbs.{among}
+use Rattle.verbs.proofs.is_among.Statement.{statement}
+use Rattle.verbs.proofs.is_among.Tie as tie
 
 -- a number that is not 0 is judged by the other end
 some : (n high : ℕ) → (n ≡ 0 → ⊥) → leb n high ≡ among n high

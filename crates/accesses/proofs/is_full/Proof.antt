@@ -1,8 +1,8 @@
 use borrow.Author.Tests.{le-leb, lt-leb}
 use borrow.Author.Needs.{needs}
 use Rattle.laws.specs.Tests.{_or_}
-use Rattle.refusal.proofs.is_full.Statement.{statement}
-use Rattle.refusal.proofs.is_full.Tie as tie
+use Rattle.accesses.proofs.is_full.Statement.{statement}
+use Rattle.accesses.proofs.is_full.Tie as tie
 
 returns : tie.Need-returns
 unfolding _or_

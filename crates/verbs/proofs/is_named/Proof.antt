@@ -1,6 +1,6 @@
 use borrow.Author.Needs.{needs}
-use Rattle.refusal.proofs.is_named.Statement.{statement}
-use Rattle.refusal.proofs.is_named.Tie as tie
+use Rattle.verbs.proofs.is_named.Statement.{statement}
+use Rattle.verbs.proofs.is_named.Tie as tie
 
 returns : tie.Need-returns
 returns c = rw (c .before .before .verb .given .1, c .is-among .ensures)

@@ -1,6 +1,6 @@
 use borrow.Author.Needs.{needs}
-use Rattle.refusal.proofs.is_outdated.Statement.{statement}
-use Rattle.refusal.proofs.is_outdated.Tie as tie
+use Rattle.accesses.proofs.is_outdated.Statement.{statement}
+use Rattle.accesses.proofs.is_outdated.Tie as tie
 
 returns-2 : tie.Need-returns-2
 returns-2 c = rw (c .before .before .before .a .given .1, c .stamp-of .ensures, c .before .index .ensures)

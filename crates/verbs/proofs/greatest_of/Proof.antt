@@ -1,6 +1,6 @@
 use borrow.Author.Needs.{needs}
-use Rattle.refusal.proofs.greatest_of.Statement.{statement}
-use Rattle.refusal.proofs.greatest_of.Tie as tie
+use Rattle.verbs.proofs.greatest_of.Statement.{statement}
+use Rattle.verbs.proofs.greatest_of.Tie as tie
 
 returns-2 : tie.Need-returns-2
 returns-2 c = rw (c .before .before .verb2 .given .1, c .larger .ensures)
