@@ -11,6 +11,8 @@ use Rattle.laws.specs.Tests.{_and_, _or_, allBelow}
 use Rattle.line.specs.Operand.{word, spaced}
 use Rattle.fault.specs.Refusal.{upToLF, lineAt}
 use Rattle.line.specs.Row.{formRow, findForm, dueRow, readLine}
+use Rattle.parts.specs.Parts.{threadStands, threadsStand, firstsStand, atomicStands, atomicsStand, cellsStand, partsStand}
+use Rattle.places.specs.Places.{placeStands}
 use Rattle.refusal.specs.Refusal.{refusalBy}
 use Rattle.rules.specs.Access.{slotCell, foundBy, accessed}
 use Rattle.rules.specs.Calls.{goesOn, looks, swaps, closes, resumed, acted}
@@ -22,9 +24,9 @@ use Rattle.printed.specs.Printed.{spelled, fieldText, endedText, printedText, a
 use Rattle.rank.specs.Rank.{slotOf, nextRank, freeStatus, fullStatus, lapped}
 use Rattle.run.specs.Report.{queueLines, rankLines, refusedLines, runLines, runOf, reported, reportText}
 use Rattle.run.specs.Run.{ran}
+use Rattle.standing.specs.Stands.{inShape, shapeStands, sizesStand, stands}
 use Rattle.texts.specs.Schedule.{linesFrom, scheduleOf, reads}
 use Rattle.schedule.specs.Sections.{linesPast, sections, judged}
-use Rattle.standing.specs.Stands.{inShape, shapeStands, sizesStand, placeStands, threadStands, threadsStand, firstsStand, atomicStands, atomicsStand, cellsStand, partsStand, stands}
 use Rattle.state.specs.State.{cellsOf, row, withRow, place, withPlace, atomicAt, withAtomic, firstOf}
 use Rattle.verbs.specs.Verbs.{among}
 use Rattle.view.specs.View.{stampOf, withStamp, joinTo, joined, viewStands}

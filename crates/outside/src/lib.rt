@@ -6,7 +6,7 @@ ghost use lib.ListN.{length, replicate};
 ghost use Rattle.asking.specs.Ask.{anew};
 ghost use Rattle.laws.specs.Lists.{filled};
 ghost use Rattle.number.specs.Buffer.{placed, Wrote};
-ghost use Rattle.standing.specs.Stands.{nameIn};
+ghost use Rattle.parts.specs.Parts.{nameIn};
 ghost use Rattle.state.specs.State.{zeroAtomic, at, atomicAt};
 ghost use Rattle.state.specs.declared.Place.the-variants.{Idle};
 ghost use Rattle.view.specs.View.{zeroView};
@@ -15,8 +15,8 @@ ghost use Rattle.outside.specs.Asked.{verbOf, stepAsked, answerWords};
 ghost use Rattle.outside.specs.Call.{lent, called};
 use asking::Asked;
 use laws::number_at;
+use parts::Family;
 use rules::Done;
-use standing::Family;
 use state::Atomic;
 use state::Machine;
 use state::Place;
@@ -271,7 +271,7 @@ fn write_atomics(buf: &mut [u32], p: usize, m: Machine, family: Family, n: usize
     let mut q = p;
     let mut i: usize = 0;
     while i < n {
-        let a = state::atomic_of(m, standing::name_in(family, i));
+        let a = state::atomic_of(m, parts::name_in(family, i));
         q = write_atomic(buf, q, a);
         i += 1;
     }

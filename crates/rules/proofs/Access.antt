@@ -9,6 +9,7 @@ use borrow.Author.Tests.{leb-true, leb-false, le-leb, le-ltb}
 use lib.Dec.{eqb}
 use lib.ListN.{length}
 use Rattle.accesses.specs.Accesses.{full}
+use Rattle.parts.specs.Parts.{firstsStand}
 use Rattle.rules.proofs.Parts.{row-fits, held-fits}
 use Rattle.rules.proofs.Standing.{NotesFit, Fits, slot-in}
 use Rattle.refusal.proofs.Passed.{among-some}
@@ -17,7 +18,6 @@ use Rattle.laws.proofs.Tests.{apart, together, neither, each}
 use Rattle.laws.specs.Tests.{_and_, allBelow}
 use Rattle.rules.specs.Access.{slotCell, stampedAt, accessOf, foundBy, accessed}
 use Rattle.rules.specs.Step.{valueOf}
-use Rattle.standing.specs.Stands.{firstsStand}
 use Rattle.state.specs.State.{cellsOf, row, withRow, firstOf}
 use Rattle.state.specs.declared.Machine.{Machine}
 use Rattle.state.specs.declared.Place.{Place}

@@ -8,6 +8,7 @@ use mathlib.Core.Path.{_∙_, _≡_, sym}
 use native.Mathlib.Omega.{arith}
 use borrow.Author.Tests.{leb-true}
 use Rattle.atomic.specs.Atomic.{swappedOf}
+use Rattle.places.specs.Places.{weightOf}
 use Rattle.rules.proofs.Access.{access-fits, accessed-fits, first-fits, value-fits}
 use Rattle.rules.proofs.Calls.{flag-in}
 use Rattle.rules.proofs.Refused.{numbered}
@@ -22,7 +23,7 @@ use Rattle.rules.specs.Step.{asked, contentIf, contentOf, decidedBy, decidedOf,
 use Rattle.printed.proofs.Fits.{InRange}
 use Rattle.rank.specs.Rank.{fullStatus}
 use Rattle.refusal.proofs.Passed.{Passed, passed}
-use Rattle.standing.specs.Stands.{stands, weightOf}
+use Rattle.standing.specs.Stands.{stands}
 use Rattle.state.specs.State.{atomicAt, cellsOf, firstOf, place}
 use Rattle.state.specs.declared.Machine.{Machine}
 use Rattle.state.specs.declared.Name.the-variants.{Flag}

@@ -6,7 +6,7 @@ use lib.ListN.{length}
 use Rattle.number.specs.Buffer.{Wrote}
 use Rattle.outside.proofs.Words.{turn, no-turn}
 use Rattle.outside.specs.Image.{inTurn, atomicWords}
-use Rattle.standing.specs.Stands.{nameIn}
+use Rattle.parts.specs.Parts.{nameIn}
 use Rattle.state.specs.State.{atomicAt}
 use Rattle.outside.proofs.write_atomics.Statement.{statement}
 use Rattle.outside.proofs.write_atomics.Tie as tie

@@ -1,7 +1,7 @@
 use borrow.Author.Needs.{needs}
-use Rattle.standing.specs.Stands.{placeStands}
-use Rattle.standing.proofs.place_stands.Statement.{statement}
-use Rattle.standing.proofs.place_stands.Tie as tie
+use Rattle.places.specs.Places.{placeStands}
+use Rattle.places.proofs.place_stands.Statement.{statement}
+use Rattle.places.proofs.place_stands.Tie as tie
 
 returns : tie.Need-returns
 unfolding placeStands

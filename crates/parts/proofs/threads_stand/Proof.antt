@@ -5,9 +5,9 @@ use borrow.Author.Tests.{not-true, not-false}
 use borrow.Author.Needs.{needs}
 use Rattle.laws.proofs.Tests.{all-none, all-more, all-fails, all-done}
 use Rattle.laws.specs.Tests.{allBelow}
-use Rattle.standing.specs.Stands.{threadStands, threadsStand}
-use Rattle.standing.proofs.threads_stand.Statement.{statement}
-use Rattle.standing.proofs.threads_stand.Tie as tie
+use Rattle.parts.specs.Parts.{threadStands, threadsStand}
+use Rattle.parts.proofs.threads_stand.Statement.{statement}
+use Rattle.parts.proofs.threads_stand.Tie as tie
 
 abbrev Inv-loop : tie.InvT-loop
 Inv-loop m n i₀ i = (i ≤ n) × (allBelow (threadStands m) i ≡ true)

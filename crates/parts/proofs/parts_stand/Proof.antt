@@ -1,7 +1,7 @@
 use borrow.Author.Needs.{needs}
-use Rattle.standing.specs.Stands.{cellsStand, partsStand}
-use Rattle.standing.proofs.parts_stand.Statement.{statement}
-use Rattle.standing.proofs.parts_stand.Tie as tie
+use Rattle.parts.specs.Parts.{cellsStand, partsStand}
+use Rattle.parts.proofs.parts_stand.Statement.{statement}
+use Rattle.parts.proofs.parts_stand.Tie as tie
 
 returns : tie.Need-returns
 unfolding partsStand cellsStand

@@ -1,7 +1,7 @@
 use borrow.Author.Needs.{needs}
-use Rattle.standing.specs.Stands.{threadStands}
-use Rattle.standing.proofs.thread_stands.Statement.{statement}
-use Rattle.standing.proofs.thread_stands.Tie as tie
+use Rattle.parts.specs.Parts.{threadStands}
+use Rattle.parts.proofs.thread_stands.Statement.{statement}
+use Rattle.parts.proofs.thread_stands.Tie as tie
 
 returns : tie.Need-returns
 unfolding threadStands

@@ -1,7 +1,7 @@
 use borrow.Author.Needs.{needs}
-use Rattle.standing.specs.Stands.{atomicStands}
-use Rattle.standing.proofs.atomic_stands.Statement.{statement}
-use Rattle.standing.proofs.atomic_stands.Tie as tie
+use Rattle.parts.specs.Parts.{atomicStands}
+use Rattle.parts.proofs.atomic_stands.Statement.{statement}
+use Rattle.parts.proofs.atomic_stands.Tie as tie
 
 returns : tie.Need-returns
 unfolding atomicStands

@@ -5,13 +5,13 @@ use borrow.Author.Tests.{not-true, not-false}
 use borrow.Author.Needs.{needs}
 use Rattle.laws.proofs.Tests.{all-none, all-more, all-fails, all-done}
 use Rattle.laws.specs.Tests.{allBelow}
-use Rattle.standing.specs.Stands.{atomicStands, nameIn, atomicsStand}
-use Rattle.standing.specs.declared.Family.{Family}
+use Rattle.parts.specs.Parts.{atomicStands, nameIn, atomicsStand}
+use Rattle.parts.specs.declared.Family.{Family}
 use Rattle.state.specs.State.{cellsOf, atomicAt}
 use Rattle.state.specs.declared.Machine.{Machine}
 use Rattle.step.specs.Limit.{most}
-use Rattle.standing.proofs.atomics_stand.Statement.{statement}
-use Rattle.standing.proofs.atomics_stand.Tie as tie
+use Rattle.parts.proofs.atomics_stand.Statement.{statement}
+use Rattle.parts.proofs.atomics_stand.Tie as tie
 
 -- the test of the cell at j
 abbrev ok : Machine → Family → ℕ → ℕ → Bool

@@ -6,11 +6,11 @@ use borrow.Author.Needs.{needs}
 use lib.Dec.{leb}
 use Rattle.laws.proofs.Tests.{all-none, all-more, all-fails, all-done}
 use Rattle.laws.specs.Tests.{allBelow}
-use Rattle.standing.specs.Stands.{firstsStand}
+use Rattle.parts.specs.Parts.{firstsStand}
 use Rattle.state.specs.State.{firstOf}
 use Rattle.step.specs.Limit.{most}
-use Rattle.standing.proofs.firsts_stand.Statement.{statement}
-use Rattle.standing.proofs.firsts_stand.Tie as tie
+use Rattle.parts.proofs.firsts_stand.Statement.{statement}
+use Rattle.parts.proofs.firsts_stand.Tie as tie
 
 abbrev Inv-loop : tie.InvT-loop
 Inv-loop m n i₀ i = (i ≤ n) × (allBelow (λ i. leb (firstOf m i) most) i ≡ true)

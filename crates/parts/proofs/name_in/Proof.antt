@@ -1,6 +1,6 @@
 use borrow.Author.Needs.{needs}
-use Rattle.standing.proofs.name_in.Statement.{statement}
-use Rattle.standing.proofs.name_in.Tie as tie
+use Rattle.parts.proofs.name_in.Statement.{statement}
+use Rattle.parts.proofs.name_in.Tie as tie
 
 returns : tie.Need-returns
 returns c = rw (c .enum-told .given .1)
