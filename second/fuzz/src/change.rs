@@ -21,6 +21,10 @@ pub fn changed(random: &mut Random, text: &[u8]) -> Option<Vec<u8>> {
                 for _ in 0..random.between(1, 3) {
                     change(random, &mut schedule);
                 }
+                // What stands behind a refused step is never run.
+                if random.chance(2, 3) {
+                    only_taken(random, &mut schedule);
+                }
                 Some(text::text(&schedule).into_bytes())
             }
             Err(refusal) if random.chance(1, 2) => Some(mended(text, refusal.place)),
@@ -49,7 +53,7 @@ fn mended(text: &[u8], fault: usize) -> Vec<u8> {
 /// One change; it may leave numbers that the reader refuses.
 fn change(random: &mut Random, schedule: &mut Schedule) {
     let many = schedule.steps.len();
-    let way = random.below(if many == 0 { 3 } else { 9 });
+    let way = random.below(if many == 0 { 2 } else { 8 });
     let place = random.below(many + 1);
     let steps = &mut schedule.steps;
     match way {
@@ -60,22 +64,17 @@ fn change(random: &mut Random, schedule: &mut Schedule) {
             }
         }
         2 => {
-            if let Some((_, _, taken)) = run(schedule, many) {
-                schedule.steps = taken;
-            }
-        }
-        3 => {
             steps.remove(random.below(many));
         }
-        4 => steps.insert(place, steps[random.below(many)]),
-        5 => steps.swap(random.below(many), random.below(many)),
-        6 => {
+        3 => steps.insert(place, steps[random.below(many)]),
+        4 => steps.swap(random.below(many), random.below(many)),
+        5 => {
             let from = random.below(many);
             let upto = (from + 1 + random.below(8)).min(many);
             let part = steps[from..upto].to_vec();
             steps.splice(place..place, part);
         }
-        7 => steps[random.below(many)].thread = random.between(1, schedule.threads.max(1)),
+        6 => steps[random.below(many)].thread = random.between(1, schedule.threads.max(1)),
         _ => {
             let other = steps[random.below(many)].act;
             let act = &mut steps[random.below(many)].act;
@@ -114,6 +113,18 @@ fn run(schedule: &Schedule, many: usize) -> Option<(Machine, Vec<Write>, Vec<Ste
     let taken = |step: &&Step| machine.step(&mut list, **step).is_ok();
     let taken = steps[..many].iter().filter(taken).copied().collect();
     Some((machine, list, taken))
+}
+
+/// Leaves the steps that are taken, and draws a last one or two.
+fn only_taken(random: &mut Random, schedule: &mut Schedule) {
+    if let Some((mut machine, mut list, taken)) = run(schedule, schedule.steps.len()) {
+        schedule.steps = taken;
+        for _ in 0..random.between(0, 2) {
+            let step = any_step(random, &machine, &list);
+            schedule.steps.push(step);
+            let _ = machine.step(&mut list, step);
+        }
+    }
 }
 
 /// Another value for one of the numbers of an act.

@@ -32,29 +32,81 @@ extern "C" {
 /// No byte of a report.
 const UNTOUCHED: u8 = 0xaa;
 
-/// What the proved report prints. With this room it must return 0 and leave
-/// what is behind its bytes.
-fn proved(text: &[u8]) -> Vec<u8> {
-    let mut first = [UNTOUCHED; 64];
-    let mut rest = vec![UNTOUCHED; 131_072];
-    let (mut stop, mut upto) = (usize::MAX, usize::MAX);
-    // SAFETY: every pointer goes with the length of its own live array, and no
-    // two of them overlap.
-    let number = unsafe {
-        dentralupo_report(
-            text.as_ptr(),
-            text.len(),
-            first.as_mut_ptr(),
-            first.len(),
-            &mut stop,
-            rest.as_mut_ptr(),
-            rest.len(),
-            &mut upto,
-        )
-    };
-    assert_eq!(number, 0, "no room");
-    assert!(first[stop..].iter().chain(&rest[upto..]).all(|&byte| byte == UNTOUCHED));
-    [&first[..stop], &rest[..upto]].concat()
+/// Room for every report: its first line, and the others.
+const WHOLE: [usize; 2] = [64, 131_072];
+
+/// What a call leaves in two buffers, and what it says.
+#[derive(PartialEq, Eq)]
+struct Lent {
+    number: u32,
+    first: Vec<u8>,
+    stop: usize,
+    rest: Vec<u8>,
+    upto: usize,
+}
+
+impl Lent {
+    /// As the proved report leaves them.
+    fn given(text: &[u8], rooms: [usize; 2]) -> Lent {
+        let [mut first, mut rest] = rooms.map(|room| vec![UNTOUCHED; room]);
+        let (mut stop, mut upto) = (usize::MAX, usize::MAX);
+        // SAFETY: every pointer goes with the length of its own live array, and
+        // no two of them overlap.
+        let number = unsafe {
+            dentralupo_report(
+                text.as_ptr(),
+                text.len(),
+                first.as_mut_ptr(),
+                first.len(),
+                &mut stop,
+                rest.as_mut_ptr(),
+                rest.len(),
+                &mut upto,
+            )
+        };
+        Lent { number, first, stop, rest, upto }
+    }
+
+    /// As a report has to stand in them: whole lines up to one that has no
+    /// room, which is 15.
+    fn due(report: &[u8], rooms: [usize; 2]) -> Lent {
+        let mut lines = report.split_inclusive(|&byte| byte == b'\n');
+        let first = put(lines.by_ref().take(1), rooms[0]);
+        let rest = put(lines, rooms[1]);
+        let number = if first.1.and(rest.1).is_some() { 0 } else { 15 };
+        let ends = [first.1, rest.1].map(|end| end.unwrap_or(0));
+        Lent { number, first: first.0, stop: ends[0], rest: rest.0, upto: ends[1] }
+    }
+
+    /// The bytes that it says are the report's.
+    fn shown(&self) -> String {
+        let [first, rest] = [(&self.first, self.stop), (&self.rest, self.upto)]
+            .map(|(bytes, end)| String::from_utf8_lossy(&bytes[..end.min(bytes.len())]));
+        format!("number {}, first {}, rest {}:\n{first}{rest}", self.number, self.stop, self.upto)
+    }
+}
+
+/// Lines put into a room, and where they end if all had room.
+fn put<'a>(lines: impl Iterator<Item = &'a [u8]>, room: usize) -> (Vec<u8>, Option<usize>) {
+    let mut bytes = vec![UNTOUCHED; room];
+    let mut end = 0;
+    for line in lines {
+        match bytes.get_mut(end..end + line.len()) {
+            Some(place) => place.copy_from_slice(line),
+            None => return (bytes, None),
+        }
+        end += line.len();
+    }
+    (bytes, Some(end))
+}
+
+fn compare(text: &[u8], report: &[u8], rooms: [usize; 2]) {
+    let (due, given) = (Lent::due(report, rooms), Lent::given(text, rooms));
+    if due != given {
+        eprintln!("fuzz: they differ, with rooms of {rooms:?}");
+        eprintln!("--- due: {}--- given: {}", due.shown(), given.shown());
+        std::process::abort();
+    }
 }
 
 /// How many texts ended with which refusal of the text or a step, 0 for none,
@@ -102,14 +154,12 @@ pub unsafe extern "C" fn LLVMFuzzerTestOneInput(data: *const u8, size: usize) ->
     });
     // An empty text may come with no address.
     let text = if size == 0 { &[] } else { std::slice::from_raw_parts(data, size) };
-    let due = report(text);
-    let given = proved(text);
-    if due != given {
-        eprintln!("--- due:\n{}", String::from_utf8_lossy(&due));
-        eprintln!("--- given:\n{}", String::from_utf8_lossy(&given));
-        std::process::abort();
-    }
-    count(&due);
+    let report = report(text);
+    compare(text, &report, WHOLE);
+    // Some room that is mostly too short, the same for the same text.
+    let mut random = Random::of_case(text.len() as u64, text.iter().map(|&b| u64::from(b)).sum());
+    compare(text, &report, [random.below(16), random.below(report.len() + 1)]);
+    count(&report);
     0
 }
 
