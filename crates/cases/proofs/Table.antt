@@ -20,7 +20,7 @@ use Rattle.opening.specs.Opening.{weightsStand, givenRoom, statusesRoom, unmove
 use Rattle.printed.specs.Printed.{spelled, fieldText, endedText, printedText, answerLine, linesText}
 use Rattle.rank.specs.Rank.{slotOf, nextRank, freeStatus, fullStatus, lapped}
 use Rattle.refusal.specs.Refusal.{among, refusalBy}
-use Rattle.run.specs.Report.{queueLines, rankLines, refusedLines, runLines, runOf, reported, reportText}
+use Rattle.reported.specs.Report.{queueLines, rankLines, refusedLines, runLines, runOf, reported, reportText}
 use Rattle.run.specs.Run.{ran}
 use Rattle.texts.specs.Schedule.{linesFrom, scheduleOf, reads}
 use Rattle.schedule.specs.Sections.{linesPast, sections, judged}

@@ -9,7 +9,7 @@ ghost use Rattle.decision.specs.Known.{StepAnew, StepKnown};
 ghost use Rattle.published.specs.Follows.{TakenFollows, AllowedTaken, OneEvent, DueByCode};
 ghost use Rattle.rules.specs.Queue.{QueueHolds};
 ghost use Rattle.rules.specs.Reached.{ReachedHolds};
-ghost use Rattle.run.specs.Promise.{ReportShort, ReportWhole};
+ghost use Rattle.reported.specs.Promise.{ReportShort, ReportWhole};
 ghost use Rattle.outside.specs.Promise.{ImageLong, ImageFaithful};
 ghost use Rattle.promises.specs.Writing.{WrittenBack, OnlyItsBytes, RefusedUntouched, PrintedUntouched};
 
