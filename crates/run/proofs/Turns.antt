@@ -11,17 +11,19 @@ use package.mir.Val.{Val}
 use base.Logic.{SProp, ent, sep, emp, exE, snd∗, id⊢}
 use base.Fml.{Lft, Share, GName, Fml, ftrue, flft}
 use prog.Memory.{Memory}
-use prog.Routine.{Routine}
+use prog.Model.{Model}
+use prog.Routine.{Routine, Env as Names}
 use prog.Wp.{Heap, Env, Calls, Loops}
 use ghost.Atoms.{Atoms, sem}
 use contract.Monad.{Fun, fact}
+use contract.Running.{GhostRules, Running, tables}
 use sound.WpLaws.{FmC}
 use types.Kit.{Given, Item, ‵, raw, _⊛_, some, later, Post, runs, lands, settles, Seq, _$_, _∵_, !, qed, use1, use2, use3}
 use types.Kit.{await, pick, split, join, move, drop, fsplit, fjoin, feqL, frame, done}
 use types.Run.{Opds}
 use denote.RattleType.{RattleType}
-use denote.Laws.{Is, Tells, Makes, shows}
-use denote.Array.{Array, array-vals, array-tells, array-makes}
+use denote.Laws.{Is, Tells, Makes, Lawful, shows}
+use denote.Array.{Array, array-lawful, array-vals, array-tells, array-makes}
 use denote.Builtin.{u8}
 use denote.Ref.{RefT, now}
 use denote.Slice.{MutSlice, ShrSlice, Room, sliceVal, finally}
@@ -32,9 +34,15 @@ use denote.Triple.Statement.{Contract, Triple}
 use denote.Triple.Call.{calls-at-last}
 use denote.Triple.Clauses.{ensured, lasts}
 use denote.Triple.Spec.{tripleOf}
+use denote.Triple.Table.{cited}
 use denote.Triple.Walked.{says}
-use Rattle.machine.proofs.Stepping.{Stepping, machine-val, asked-val}
+use Rattle.machine.proofs.Stepping.{Stepping, machine-val, asked-val, done-val}
+use Rattle.machine.proofs.step.Met as step-thm
+use Rattle.machine.proofs.step.Symbol as step-def
 use Rattle.machine.proofs.step.Symbol.{name as #step}
+use Rattle.rules.proofs.Done as D
+use Rattle.rules.proofs.Done.Laws as D′
+use Rattle.rules.specs.declared.Done.{Done}
 use Rattle.step.proofs.Answer as R
 use Rattle.step.proofs.Answer.Laws as R′
 use Rattle.step.specs.Answer.{numberOf}
@@ -64,12 +72,20 @@ use Rattle.turn.proofs.Ended.Laws as F′
 use Rattle.turn.proofs.Going as G
 use Rattle.turn.proofs.Going.Laws as G′
 use Rattle.turn.proofs.begin as begin
+use Rattle.turn.proofs.begin.Met as begin-thm
+use Rattle.turn.proofs.begin.Symbol as begin-def
 use Rattle.turn.proofs.begin.Symbol.{name as #begin}
 use Rattle.turn.proofs.finish as finish
+use Rattle.turn.proofs.finish.Met as finish-thm
+use Rattle.turn.proofs.finish.Symbol as finish-def
 use Rattle.turn.proofs.finish.Symbol.{name as #finish}
 use Rattle.turn.proofs.go_on as go-on
+use Rattle.turn.proofs.go_on.Met as go-on-thm
+use Rattle.turn.proofs.go_on.Symbol as go-on-def
 use Rattle.turn.proofs.go_on.Symbol.{name as #go-on}
 use Rattle.turn.proofs.no_writes as no-writes
+use Rattle.turn.proofs.no_writes.Met as no-writes-thm
+use Rattle.turn.proofs.no_writes.Symbol as no-writes-def
 use Rattle.turn.proofs.no_writes.Symbol.{name as #no-writes}
 
 -- the list of records by value
@@ -97,6 +113,21 @@ write-tells = LL.tells T.the-type T′.the-laws
 
 row-tells : Tells Row (Is Row) (array-vals write-vals)
 row-tells = array-tells T.the-row write-vals write-tells 1024
+
+module _ {M : Type 1} (𝓤 : URA M) (H : Heap 𝓤) (A : Atoms 𝓤) where
+  pub write-makes : Makes 𝓤 H A T.the-row (Is T.the-row)
+  write-makes = LL.makes T.the-type T′.the-plain 𝓤 H A
+
+  pub row-lawful : Given 𝓤 H A → Lawful 𝓤 H A Row
+  row-lawful W = array-lawful 𝓤 H A W T.the-row (LL.lawful T.the-type T′.the-laws 𝓤 H A W) 1024
+
+-- what a step gave back
+module _ (d : Done) (is-d : Is D.the-row d (done-val d ∷ [])) where
+  pub given-machine : Is Q.the-row (d .machine) (machine-val (d .machine) ∷ [])
+  given-machine = LL.owed D.the-type D′.the-laws d _ is-d .1 .0
+
+  pub given-answer : Is R.the-row (d .answer) (answer-val (d .answer) ∷ [])
+  given-answer = LL.owed D.the-type D′.the-laws d _ is-d .0
 
 -- the loop's state: the run on its way, the list and the buffer, and what is known of them
 pub record State (t : List ℕ) (x : Run) (os : List ℕ) : Type 0 where
@@ -143,6 +174,19 @@ pub record Known {M : Type 1} (𝓤 : URA M) (H : Heap 𝓤) (A : Atoms 𝓤) (m
   pub step : Triple 𝓤 (C #step) (Stepping 𝓤 H A mem run)
   pub go-on : Triple 𝓤 (C #go-on) (GoOn 𝓤 H A mem run)
   pub finish : Triple 𝓤 (C #finish) (Finish 𝓤 H A mem run)
+
+-- by a table that has them
+module _ {M : Type 1} (𝓤 : URA M) (H : Heap 𝓤) (𝓜 : Model 𝓤 H) (𝓖 : GhostRules 𝓤 H) (𝓡 : Running 𝓤 H 𝓜) (γ : Names) where
+  pub knows : γ #no-writes ≡ no-writes-def.routine → γ #begin ≡ begin-def.routine → γ #step ≡ step-def.routine → γ #go-on ≡ go-on-def.routine
+      → γ #finish ≡ finish-def.routine → Known 𝓤 H (𝓖 .A) (𝓜 .mem) (𝓡 .run) (tables 𝓤 H 𝓜 𝓡 γ .C)
+  knows no-writes-is begin-is step-is go-on-is finish-is =
+      record {
+        no-writes = cited 𝓤 H (NoWrites 𝓤 H (𝓖 .A) (𝓜 .mem) (𝓡 .run)) 𝓜 𝓡 γ #no-writes no-writes-def.routine no-writes-is (no-writes-thm.met 𝓤 H 𝓜 𝓖 𝓡);
+        begin = cited 𝓤 H (Begin 𝓤 H (𝓖 .A) (𝓜 .mem) (𝓡 .run)) 𝓜 𝓡 γ #begin begin-def.routine begin-is (begin-thm.met 𝓤 H 𝓜 𝓖 𝓡);
+        step = cited 𝓤 H (Stepping 𝓤 H (𝓖 .A) (𝓜 .mem) (𝓡 .run)) 𝓜 𝓡 γ #step step-def.routine step-is (step-thm.met 𝓤 H 𝓜 𝓖 𝓡);
+        go-on = cited 𝓤 H (GoOn 𝓤 H (𝓖 .A) (𝓜 .mem) (𝓡 .run)) 𝓜 𝓡 γ #go-on go-on-def.routine go-on-is (go-on-thm.met 𝓤 H 𝓜 𝓖 𝓡);
+        finish = cited 𝓤 H (Finish 𝓤 H (𝓖 .A) (𝓜 .mem) (𝓡 .run)) 𝓜 𝓡 γ #finish finish-def.routine finish-is (finish-thm.met 𝓤 H 𝓜 𝓖 𝓡);
+      }
 
 module _ {M : Type 1} {𝓤 : URA M} {H : Heap 𝓤} {A : Atoms 𝓤} (W : Given 𝓤 H A) (mem : Memory → SProp 𝓤) (run : Routine → Fun 𝓤) where
   abbrev pub to-no-writes : NoWrites 𝓤 H A mem run .Ghost

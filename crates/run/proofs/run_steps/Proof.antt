@@ -31,9 +31,8 @@ use types.SemTy.{cells, Arr}
 use types.Tokens.{lft-new, lft-end}
 use sound.WpLaws.{FmC, fmOf, WpFn-mono}
 use denote.RattleType.{owns}
-use denote.Laws.{Is, Makes, Lawful}
+use denote.Laws.{Is}
 use denote.Memory.{mem, pointee}
-use denote.Array.{array-lawful}
 use denote.Builtin.{u8}
 use denote.Ref.{RefT, now}
 use denote.Slice.{MutSlice, ShrSlice, Room, sliceTy, sliceVal, slice-vals, shr-slice-tells, shr-slice-copy, mut-slice-tells}
@@ -43,18 +42,13 @@ use denote.Steps.{nothing, owned}
 use denote.Struct.Laws as LL
 use denote.Triple.Entry.{Vals, onEntry}
 use denote.Triple.Spec.{Meets, tripleOf}
-use denote.Triple.Table.{entered, cited}
+use denote.Triple.Table.{entered}
 use denote.Triple.Walked.{says, Stays, stay-none, stay-none-slice, stay-slice, walkOf, goes-none, goes-none-slice, goes-slice, Walks, ends-at}
 use denote.Triple.Walked.{walked, walk-meets}
 use denote.Exit.{yes}
-use Rattle.machine.proofs.Stepping.{Stepping, calls-step, machine-val, done-val}
-use Rattle.machine.proofs.step.Symbol as step-def
-use Rattle.machine.proofs.step.Symbol.{name as #step}
-use Rattle.machine.proofs.step.Met as step-thm
+use Rattle.machine.proofs.Stepping.{calls-step, machine-val}
 use Rattle.rules.proofs.Done as D
 use Rattle.rules.proofs.Done.Laws as D′
-use Rattle.rules.specs.declared.Done.{Done}
-use Rattle.step.proofs.Answer as R
 use Rattle.step.proofs.Answer.Laws as R′
 use Rattle.schedule.proofs.Section as N
 use Rattle.schedule.proofs.Section.Laws as N′
@@ -77,24 +71,12 @@ use Rattle.run.specs.Run.{Run, ran}
 use Rattle.turn.specs.Going.{asks}
 use Rattle.turn.specs.declared.Ended.{Ended}
 use Rattle.run.proofs.Runs.{way-begins, way-ends, way-goes}
-use Rattle.run.proofs.Turns.{Row, list-val, section-val, going-val, answer-val, ended-val, State, is-asked, many, write-tells, room-w, room-b, Known}
-use Rattle.run.proofs.Turns.{NoWrites, Begin, GoOn, Finish, calls-no-writes, calls-begin, calls-go-on, calls-finish}
+use Rattle.run.proofs.Turns.{Row, list-val, section-val, going-val, ended-val, State, is-asked, many, write-tells, room-w, room-b, Known}
+use Rattle.run.proofs.Turns.{given-machine, given-answer, write-makes, row-lawful, knows, calls-no-writes, calls-begin, calls-go-on, calls-finish}
 use Rattle.turn.proofs.Ended as F
 use Rattle.turn.proofs.Ended.Laws as F′
 use Rattle.turn.proofs.Going as G
 use Rattle.turn.proofs.Going.Laws as G′
-use Rattle.turn.proofs.begin.Symbol as begin-def
-use Rattle.turn.proofs.begin.Symbol.{name as #begin}
-use Rattle.turn.proofs.begin.Met as begin-thm
-use Rattle.turn.proofs.finish.Symbol as finish-def
-use Rattle.turn.proofs.finish.Symbol.{name as #finish}
-use Rattle.turn.proofs.finish.Met as finish-thm
-use Rattle.turn.proofs.go_on.Symbol as go-on-def
-use Rattle.turn.proofs.go_on.Symbol.{name as #go-on}
-use Rattle.turn.proofs.go_on.Met as go-on-thm
-use Rattle.turn.proofs.no_writes.Symbol as no-writes-def
-use Rattle.turn.proofs.no_writes.Symbol.{name as #no-writes}
-use Rattle.turn.proofs.no_writes.Met as no-writes-thm
 use Rattle.run.proofs.run_steps.Key.{name as #key}
 use Rattle.run.proofs.run_steps as f
 use Rattle.run.proofs.run_steps.Statement as stated
@@ -143,19 +125,6 @@ module _ {M : Type 1} (𝓤 : URA M) (H : Heap 𝓤) (A : Atoms 𝓤) (W : Given
 
   abbrev Out : List ℕ → Val → Fml
   Out bs k = MutSlice (named 1) κ′ u8 .own (y bs) (k ∷ [])
-
-  write-makes : Makes 𝓤 H A T.the-row (Is T.the-row)
-  write-makes = LL.makes T.the-type T′.the-plain 𝓤 H A
-
-  row-lawful : Lawful 𝓤 H A Row
-  row-lawful = array-lawful 𝓤 H A W T.the-row (LL.lawful T.the-type T′.the-laws 𝓤 H A W) 1024
-
-  -- what a step gave back
-  is-m′ : (d : Done) → Is D.the-row d (done-val d ∷ []) → Is Q.the-row (d .machine) (machine-val (d .machine) ∷ [])
-  is-m′ d is-d = LL.owed D.the-type D′.the-laws d _ is-d .1 .0
-
-  is-answer : (d : Done) → Is D.the-row d (done-val d ∷ []) → Is R.the-row (d .answer) (answer-val (d .answer) ∷ [])
-  is-answer d is-d = LL.owed D.the-type D′.the-laws d _ is-d .0
 
   exits : (bs : List ℕ) (e : Ended) → length bs ≡ length os → Ends the-run os e bs → Is F.the-row e (ended-val e ∷ [])
       → ent 𝓤 (⋆ 𝓤 H A (‵ (flft κ q) ∷ ‵ (flft κ′ q′) ∷ ‵ Text ∷ ‵ (Out bs (u os)) ∷ [])) (Post (ended-val e))
@@ -245,7 +214,7 @@ module _ {M : Type 1} (𝓤 : URA M) (H : Heap 𝓤) (A : Atoms 𝓤) (W : Given
           (from ! (stop !)) (init ! 8 refl (tt, (tt, (record { fits = lit< tt }, tt)))) $
           rewrite ! 8 (λ (k : ℕ). ‵ (fat fullShare list l₁₁ 0 (sliceVal (l₅, 0) k))) (sym (many s)) refl $
           move ! (20 ∷ []) $ use1 W (‵ (cells (mem T.the-row) (s .ws) l₅ 0))
-          (to-cells 𝓤 H A W T.the-row tt 1024 write-vals write-tells write-makes l₅ (s .ws) (s .is-ws)) $
+          (to-cells 𝓤 H A W T.the-row tt 1024 write-vals write-tells (write-makes 𝓤 H A) l₅ (s .ws) (s .is-ws)) $
           lft-new ! tt (λ ν. move ! (1 ∷ []) $ use1 W (later (some (λ (δ : GName).
           ‵ (MutSlice (named 0) (ν ∷ []) T.the-row .own (lent-at l₅ 0 δ (s .ws)) (sliceVal (l₅, 0) (length (s .ws)) ∷ []))
           ⊛ ‵ (flent (ν ∷ []) (Held T.the-row (length (s .ws)) l₅ 0 δ)))))
@@ -265,10 +234,10 @@ module _ {M : Type 1} (𝓤 : URA M) (H : Heap 𝓤) (A : Atoms 𝓤) (W : Given
           lft-end ! tt $ move ! (0 ∷ 2 ∷ 1 ∷ []) $ use3 W (later (‵ (Arr (mem T.the-row) (length (s .ws)) .lies us l₅ 0)))
           (slice-back 𝓤 H A W T.the-row (ν ∷ []) δ us (length (s .ws)) l₅ 0) $ await ! tt $ fsplit ! $ drop ! $
           use1 W (given (Is Row us (list-val us ∷ [])) (‵ (fat fullShare arr l₅ 0 (list-val us))))
-          (from-cells 𝓤 H A W T.the-row tt 1024 write-vals write-tells write-makes l₅ us (l ∙ many s)) $ learn ! (λ is-us.
+          (from-cells 𝓤 H A W T.the-row tt 1024 write-vals write-tells (write-makes 𝓤 H A) l₅ us (l ∙ many s)) $ learn ! (λ is-us.
           move ! (1 ∷ 2 ∷ 3 ∷ 4 ∷ 5 ∷ 6 ∷ 7 ∷ 8 ∷ 9 ∷ 10 ∷ 11 ∷ 12 ∷ 13 ∷ 14 ∷ 15 ∷ 16 ∷ 17 ∷ 18 ∷ 19 ∷ 20 ∷ []) $
           assigns ! (of-opd ! (load ! (from ! (fld ! {τ = Q′.mir} {d = 8} refl (stop !))) (look-in ! 16 (sub ! 1 {τ = Q′.mir} {d = 8} refl (whole !)))))
-          (from ! (stop !)) (store ! 24 refl (LL.lawful Q.the-type Q′.the-laws 𝓤 H A W .typed (d .machine) _ (is-m′ d is-d) .0)) $
+          (from ! (stop !)) (store ! 24 refl (LL.lawful Q.the-type Q′.the-laws 𝓤 H A W .typed (d .machine) _ (given-machine d is-d) .0)) $
           -- the buffer is lent again for ν′
           assigns ! (addr ! (from ! (fld ! refl (hop ! (look-in ! 22 (sub ! 0 refl (whole !))) (stop !))))) (from ! (stop !))
           (init ! 6 refl (tt, tt)) $
@@ -283,7 +252,7 @@ module _ {M : Type 1} (𝓤 : URA M) (H : Heap 𝓤) (A : Atoms 𝓤) (W : Given
           (lends-again u8 κ′ (ν′ ∷ []) q′ γ b o 𝓤 H A W (named 1) (named 1) (s .bs)) $ await ! tt $ Kit.pick ! (λ δ′. split ! $
           move ! (5 ∷ 2 ∷ 3 ∷ 0 ∷ []) $
           -- [text's token; ν′'s; text; the slice; the lender's part; text; _13; …]
-          calls-go-on ! fm at-mem run (known .go-on) κ q x (ν′ ∷ []) fullShare b o δ′ (s .bs) (s .g) (d .answer) (s .is-g) (is-answer d is-d)
+          calls-go-on ! fm at-mem run (known .go-on) κ q x (ν′ ∷ []) fullShare b o δ′ (s .bs) (s .g) (d .answer) (s .is-g) (given-answer d is-d)
           (and-then ! (load ! (from ! (stop !)) (look ! 27 refl)) (and-then ! (load ! (from ! (stop !)) (look ! 3 refl))
           (and-then ! (load ! (from ! (stop !)) (look ! 17 refl))
           (and-then ! (load ! (from ! (fld ! {τ = R′.mir} {d = 0} refl (stop !))) (look-in ! 15 (sub ! 0 {τ = R′.mir} {d = 0} refl (whole !)))) (no-more !)))))
@@ -295,7 +264,7 @@ module _ {M : Type 1} (𝓤 : URA M) (H : Heap 𝓤) (A : Atoms 𝓤) (W : Given
           land-last ! (from ! (stop !)) (store ! 18 refl (LL.lawful G.the-type G′.the-laws 𝓤 H A W .typed r _ is-r .0)) $
           forget ! 4 refl $ forget ! 6 refl $ forget ! 8 refl $ forget ! 10 refl $ forget ! 12 refl $ forget ! 16 refl $
           let next = way-goes (s .way) e done-by on in
-          again ! ≺ I s (record { m = d .machine; g = r; ws = us; bs = bs; is-m = is-m′ d is-d; is-g = is-r; is-ws = is-us; as-long = l′ ∙ s .as-long; way = next .0 })
+          again ! ≺ I s (record { m = d .machine; g = r; ws = us; bs = bs; is-m = given-machine d is-d; is-g = is-r; is-ws = is-us; as-long = l′ ∙ s .as-long; way = next .0 })
           (next .1))))))))
 
       -- no step is ahead
@@ -307,7 +276,7 @@ module _ {M : Type 1} (𝓤 : URA M) (H : Heap 𝓤) (A : Atoms 𝓤) (W : Given
           rewrite ! 12 (λ (k : Bool). ‵ (fat fullShare tyBool l₉ 0 (vbool k))) e refl $
           leaves-loop ! (load ! (from ! (stop !)) (look ! 12 refl)) $ exec ! C Λ E mir.t-5 (atRet E Post) $
           assigns ! (of-opd ! (load ! (from ! (stop !)) (look ! 20 refl))) (from ! (stop !))
-          (init ! 14 refl (row-lawful .typed (s .ws) _ (s .is-ws) .0)) $
+          (init ! 14 refl (row-lawful 𝓤 H A W .typed (s .ws) _ (s .is-ws) .0)) $
           calls-finish ! fm at-mem run (known .finish) (s .m) (s .g) (s .ws) (s .is-m) (s .is-g) (s .is-ws)
           (and-then ! (load ! (from ! (stop !)) (look ! 25 refl)) (and-then ! (load ! (from ! (stop !)) (look ! 19 refl)) (and-then ! (load ! (from ! (stop !)) (look ! 15 refl)) (no-more !))))
           (λ r ended is-r.
@@ -343,8 +312,8 @@ module _ {M : Type 1} (𝓤 : URA M) (H : Heap 𝓤) (A : Atoms 𝓤) (W : Given
           move ! (30 ∷ []) $ split ! $ move ! (1 ∷ []) $ split ! $ move ! (1 ∷ []) $ drop ! $ move ! (1 ∷ 0 ∷ 3 ∷ 2 ∷ []) $
           -- [the tokens; what text owns; what out owns; _13 (4); …; _k (30 - 2 k); …]
           calls-no-writes ! fm at-mem run (known .no-writes) (no-more !) (λ ws none is-ws.
-          land ! (from ! (stop !)) (init ! 14 refl (row-lawful .typed ws _ is-ws .0)) $
-          assigns ! (of-opd ! (load ! (from ! (stop !)) (look ! 14 refl))) (from ! (stop !)) (init ! 20 refl (row-lawful .typed ws _ is-ws .0)) $
+          land ! (from ! (stop !)) (init ! 14 refl (row-lawful 𝓤 H A W .typed ws _ is-ws .0)) $
+          assigns ! (of-opd ! (load ! (from ! (stop !)) (look ! 14 refl))) (from ! (stop !)) (init ! 20 refl (row-lawful 𝓤 H A W .typed ws _ is-ws .0)) $
           forget ! 14 refl $ move ! (2 ∷ []) $
           use1 W (‵ Text ⊛ ‵ Text) (shr-slice-copy 𝓤 H A W (named 0) κ u8 .twice x (v ∷ [])) $ split ! $ move ! (2 ∷ 0 ∷ []) $
           -- [text's token; text; text; out's token; out; _13; …]
@@ -401,16 +370,4 @@ run-steps-spec 𝓤 H 𝓜 𝓖 𝓡 =
     entered 𝓤 H (tripleOf 𝓤 H (𝓖 .A) f.signature (f.spec 𝓤 H (𝓖 .A) (𝓜 .mem) (𝓡 .run)))
     (tables 𝓤 H 𝓜 𝓡 code.env .C) (tables 𝓤 H 𝓜 𝓡 code.env .Λ) #key code.function (code.unfolded 𝓤 H 𝓜 𝓡)
     (run-steps-meets 𝓤 H (𝓖 .A) (givenOf 𝓤 H 𝓜 𝓖) (𝓜 .mem) (𝓡 .run) (tablesOf 𝓤 H 𝓜 (tables 𝓤 H 𝓜 𝓡 code.env))
-    (record {
-      no-writes =
-          cited 𝓤 H (NoWrites 𝓤 H (𝓖 .A) (𝓜 .mem) (𝓡 .run)) 𝓜 𝓡 code.env #no-writes no-writes-def.routine code.calls-turn·no-writes
-          (no-writes-thm.met 𝓤 H 𝓜 𝓖 𝓡);
-      begin = cited 𝓤 H (Begin 𝓤 H (𝓖 .A) (𝓜 .mem) (𝓡 .run)) 𝓜 𝓡 code.env #begin begin-def.routine code.calls-turn·begin (begin-thm.met 𝓤 H 𝓜 𝓖 𝓡);
-      step =
-          cited 𝓤 H (Stepping 𝓤 H (𝓖 .A) (𝓜 .mem) (𝓡 .run)) 𝓜 𝓡 code.env #step step-def.routine code.calls-machine·step
-          (step-thm.met 𝓤 H 𝓜 𝓖 𝓡);
-      go-on = cited 𝓤 H (GoOn 𝓤 H (𝓖 .A) (𝓜 .mem) (𝓡 .run)) 𝓜 𝓡 code.env #go-on go-on-def.routine code.calls-turn·go-on (go-on-thm.met 𝓤 H 𝓜 𝓖 𝓡);
-      finish =
-          cited 𝓤 H (Finish 𝓤 H (𝓖 .A) (𝓜 .mem) (𝓡 .run)) 𝓜 𝓡 code.env #finish finish-def.routine code.calls-turn·finish
-          (finish-thm.met 𝓤 H 𝓜 𝓖 𝓡);
-    }))
+    (knows 𝓤 H 𝓜 𝓖 𝓡 code.env code.calls-turn·no-writes code.calls-turn·begin code.calls-machine·step code.calls-turn·go-on code.calls-turn·finish))
