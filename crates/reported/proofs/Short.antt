@@ -1,6 +1,6 @@
 -- Reports are short, so a buffer of 131,072 bytes holds every one whole. Assumes nothing.
 use Prim.Native.Nat.{_+_, _*_, _-_, _<_, _≤_, suc, zero, ℕ}
-use lib.ListN.{length, length-append, replicate}
+use lib.ListN.{length, length-append}
 use lib.Seq.{sets}
 use mathlib.Core.Bool.{true}
 use mathlib.Core.List.{List, [], _++_, map}
@@ -28,10 +28,9 @@ use Rattle.reported.specs.Report.{Lines, heading, queueLines, rankLines,
 use Rattle.run.specs.Ends.{toldLine}
 use Rattle.run.specs.Run.{Run, ran}
 use Rattle.texts.proofs.Places.{refusal-placed}
-use Rattle.texts.specs.Schedule.{Outcome, reads, refusal, schedule}
+use Rattle.texts.specs.Schedule.{Outcome, Schedule, reads, refusal, schedule}
 use Rattle.standing.specs.Stands.{stands}
 use Rattle.state.specs.declared.Machine.{Machine}
-use Rattle.writes.specs.Records.{noWrite}
 use Rattle.writes.specs.declared.Write.{Write}
 
 -- so many ranks, none above 4,096, of a state that stands
@@ -115,16 +114,20 @@ text-short r h =
       length-pow 4 (placeOf r) (omega arith),
     )
 
+-- a run from an opening, whatever records are lent
+opened-short : (x : Schedule) (ws : List Write)
+    → LinesShort (runLines (ran (openedOf (x .threads) (x .slots) (x .plain) (x .flag) .machine) ws (x .steps)))
+opened-short x ws =
+    let m = openedOf (x .threads) (x .slots) (x .plain) (x .flag) .machine in
+    run-short (ran m ws (x .steps)) (4096 - m .steps) (omega arith) (few m ws (x .steps))
+    (listed (x .threads) (x .slots) (x .plain) (x .flag) ws (x .steps)) (refused-small m ws (x .steps))
+
 pub report-short : ReportShort
 unfolding reported runOf linesText
 report-short s = go (reads s) refl
   where
     go : (x : Outcome) → reads s ≡ x → LinesShort (reportOn x)
-    go (schedule x) e =
-        let m = openedOf (x .threads) (x .slots) (x .plain) (x .flag) .machine in
-        let ws = replicate 1024 noWrite in
-        run-short (ran m ws (x .steps)) (4096 - m .steps) (omega arith) (few m ws (x .steps))
-        (listed (x .threads) (x .slots) (x .plain) (x .flag) ws (x .steps)) (refused-small m ws (x .steps))
+    go (schedule x) e = opened-short x _
     go (refusal r) e = (text-short r (refusal-placed s r e), omega arith)
 
 pub report-whole : ReportWhole

@@ -59,7 +59,7 @@ run-report x b {e} {l} o f g h =
     let queue = queueLines (e .machine) (e .writes) in
     let last = refusedLines (e .machine .steps) (e .refused) in
     let taken : e .machine .steps ≡ length (r .answers)
-    = ap (λ (m : Machine). m .steps) (o .machine) ∙ counts (x .threads) (x .slots) (x .plain) (x .flag) (replicate 1024 noWrite) (x .steps) in
+    = ap (λ (m : Machine). m .steps) (o .machine) ∙ counts (x .threads) (x .slots) (x .plain) (x .flag) _ (x .steps) in
     record {
       first = h ∙ ap (heading word.Answers) taken;
       rest =
