@@ -47,12 +47,16 @@ pub fn of_case(seed: u64, case: u64) -> Vec<u8> {
         return noise(random);
     }
     let mut text = if case % 33 == 32 { schedules::big(random) } else { schedules::small(random) };
-    let shares = DAMAGES.map(|(share, _)| share);
     for _ in 0..random.between(1, 2) {
-        let (_, damage) = DAMAGES[random.weighted(&shares)];
-        damage(random, &mut text);
+        once(random, &mut text);
     }
     text
+}
+
+/// One damage to any bytes.
+pub fn once(random: &mut Random, text: &mut Vec<u8>) {
+    let (_, damage) = DAMAGES[random.weighted(&DAMAGES.map(|(share, _)| share))];
+    damage(random, text);
 }
 
 /// Bytes of no schedule's making: any, those of a text, or words of a text.

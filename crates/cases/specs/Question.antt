@@ -10,7 +10,7 @@ use Rattle.line.specs.declared.LineRead.the-variants.{Took, Fault}
 use Rattle.fault.specs.declared.Refusal.{Refusal}
 use Rattle.rules.specs.Step.{stepOf, contentOf}
 use Rattle.opening.specs.Opening.{openedOf}
-use Rattle.run.specs.Report.{reportText}
+use Rattle.reported.specs.Report.{reportText}
 use Rattle.texts.specs.Schedule.{Schedule, Outcome, schedule, refusal, weightIn, reads}
 use Rattle.state.specs.declared.Machine.{Machine}
 use Rattle.step.specs.declared.Answer.{Answer}

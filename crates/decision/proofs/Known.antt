@@ -15,9 +15,11 @@ use Rattle.decision.specs.Known.{judgedBy, decidedWith, leftBy, stepBy}
 use Rattle.laws.proofs.Choice.{either}
 use Rattle.laws.proofs.Tests.{apart}
 use Rattle.laws.specs.Tests.{_and_, _or_}
+use Rattle.parts.specs.Parts.{partsStand}
+use Rattle.places.specs.Places.{rankOf}
 use Rattle.rules.specs.Step.{refusalOf, decidedOf, stepOf}
 use Rattle.standing.proofs.Bounds.{noted, sizes}
-use Rattle.standing.specs.Stands.{rankOf, partsStand, stands}
+use Rattle.standing.specs.Stands.{stands}
 use Rattle.state.specs.State.{place}
 use Rattle.state.specs.declared.Machine.{Machine}
 use Rattle.step.specs.declared.Step.{Step}

@@ -4,12 +4,14 @@ use Prim.Native.Nat.{ℕ, _-_}
 use lib.Dec.{eqb, leb, ltb}
 use Rattle.decision.specs.declared.Verdict.{Verdict}
 use Rattle.laws.specs.Tests.{_and_, _or_}
+use Rattle.parts.specs.Parts.{partsStand}
+use Rattle.places.specs.Places.{rankOf}
 use Rattle.rank.specs.Rank.{fullStatus}
 use Rattle.refusal.specs.Refusal.{refusalBy}
 use Rattle.rules.specs.Calls.{statusName}
 use Rattle.rules.specs.Step.{decidedBy, contentIf}
 use Rattle.rules.specs.declared.Decided.{Decided}
-use Rattle.standing.specs.Stands.{rankOf, sizesStand, partsStand}
+use Rattle.standing.specs.Stands.{sizesStand}
 use Rattle.state.specs.State.{place, atomicAt}
 use Rattle.state.specs.declared.Machine.{Machine}
 use Rattle.step.specs.declared.Answer.{Answer}

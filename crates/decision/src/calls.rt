@@ -2,8 +2,8 @@
 ghost use mathlib.Core.Path.{_≡_};
 ghost use Prim.Native.Nat.{_≤_};
 ghost use lib.Dec.{eqb};
+ghost use Rattle.places.specs.Places.{rankOf};
 ghost use Rattle.rules.specs.Calls.{ends, goesOn, statusName, looks, swaps, closes, resumed, yesIf, acted};
-ghost use Rattle.standing.specs.Stands.{rankOf};
 ghost use Rattle.state.specs.State.{place, atomicAt};
 use rules::Done;
 use state::Machine;

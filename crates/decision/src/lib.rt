@@ -4,10 +4,10 @@ ghost use mathlib.Core.Bool.{true};
 ghost use Prim.Native.Nat.{_≤_, _-_};
 ghost use Rattle.decision.specs.Bounds.{Sized};
 ghost use Rattle.decision.specs.Decision.{rankFits, standsIf, verdictOf, contentBy};
+ghost use Rattle.places.specs.Places.{rankOf};
 ghost use Rattle.refusal.specs.Refusal.{refusalBy};
 ghost use Rattle.rules.specs.Access.{accessed};
 ghost use Rattle.rules.specs.Step.{valueOf, takenBy, decidedBy, contentIf};
-ghost use Rattle.standing.specs.Stands.{rankOf};
 ghost use Rattle.state.specs.State.{place};
 use asking::Ask;
 use asking::Asked;
@@ -105,7 +105,7 @@ fn rank_fits(m: Machine, step: Step) -> bool
     if shape.threads < step.thread {
         return true;
     }
-    standing::rank_of(state::place_of(m, index(step.thread))) <= 4096
+    places::rank_of(state::place_of(m, index(step.thread))) <= 4096
 }
 
 // Whether the state and the list stand; of those known to stand only what the step reckons with is judged.

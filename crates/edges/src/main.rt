@@ -90,7 +90,7 @@ fn show_cases(text: &[u8]) {
 
 fn show_whole(name: &[u8], text: &[u8]) {
     io::write_all(1, name);
-    match schedule::judge(text) {
+    match judging::judge(text) {
         Judged::Taken(_) => {
             io::write_all(1, b" taken\n");
         }
@@ -104,10 +104,8 @@ fn show_whole(name: &[u8], text: &[u8]) {
     }
 }
 
-fn main() {
-    let mut buffer = io::large_buffer();
-    let n = io::read_full(0, &mut buffer);
-    show_cases(&buffer[..n]);
+// The least text, and what comes short of it.
+fn show_ends() {
     show_whole(b"empty", b"");
     show_whole(
         b"least",
@@ -117,6 +115,10 @@ fn main() {
         b"no-last-LF",
         b"shape 2\nthreads 1\nslots 1\nplain 0\nflag 0\nsteps 0",
     );
+}
+
+// A number outside its range, and a wrong form before or after it.
+fn show_ranges() {
     show_whole(
         b"threads-9",
         b"shape 2\nthreads 9\nslots 1\nplain 0\nflag 0\nsteps 0\n",
@@ -126,6 +128,10 @@ fn main() {
         b"later-form",
         b"shape 2\nthreads 9\nslots x\nplain 0\nflag 0\nsteps 0\n",
     );
+}
+
+// A line too few or too many.
+fn show_counts() {
     show_whole(
         b"one-weight-short",
         b"shape 2\nthreads 1\nslots 1\nplain 1\nflag 0\nsteps 0\n",
@@ -146,6 +152,15 @@ fn main() {
         b"empty-line-after",
         b"shape 2\nthreads 1\nslots 1\nplain 0\nflag 0\nsteps 0\n\n",
     );
+}
+
+fn main() {
+    let mut buffer = io::large_buffer();
+    let n = io::read_full(0, &mut buffer);
+    show_cases(&buffer[..n]);
+    show_ends();
+    show_ranges();
+    show_counts();
     let most = [0u8; 65536];
     show_whole(b"65536-bytes", &most);
     let more = [0u8; 65537];

@@ -9,7 +9,7 @@ use Rattle.printed.specs.Printed.{endedText, fieldText, printedText, spe
 use Rattle.printed.specs.declared.Field.{Field}
 use Rattle.printed.specs.declared.Printed.the-variants.{Three, Two}
 use Rattle.printed.specs.declared.Word.{Word}
-use Rattle.writer.proofs.Laws.{weight-short}
+use Rattle.measure.proofs.Widths.{weight-short}
 use Rattle.printed.specs.declared.Word.the-variants as word
 
 pub length-ended : (f : Field) (b : ℕ) → length (endedText f b) ≡ length (fieldText f) + 1

@@ -57,7 +57,7 @@ fn word_width(w: Word) -> usize
     ensures { λ r. ⌜ r ≡ length (spelled w) ⌝ }
 {
     let word = letters(w);
-    writer::word_width(&word)
+    measure::word_width(&word)
 }
 
 fn put_word(buf: &mut [u8], at: usize, w: Word) -> Written

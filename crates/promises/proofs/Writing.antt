@@ -19,8 +19,9 @@ use Rattle.laws.proofs.Choice.{either}
 use Rattle.number.proofs.Stores.{below-sets, after-sets, stands-sets, room-yes}
 use Rattle.number.specs.Buffer.{room, placed, putAt, putNumber}
 use Rattle.number.specs.declared.Written.the-variants.{Next, Short}
-use Rattle.printed.specs.Printed.{printedText}
-use Rattle.promises.specs.Writing.{WrittenBack, OnlyItsBytes, RefusedUntouched, PrintedUntouched}
+use Rattle.printed.specs.Printed.{answerLine, printedText}
+use Rattle.promises.specs.Writing.{WrittenBack, OnlyItsBytes, RefusedUntouched, PrintedUntouched, SaidPrinted}
+use Rattle.step.specs.declared.Answer.the-variants.{Dash, Ok, Value, Yes, No, None, Got, Refused}
 use Rattle.writer.specs.Writer.{lineWritten, linePlaced, writtenNumber}
 use Rattle.writer.specs.declared.LineWritten.{LineWritten}
 use Rattle.writer.specs.declared.LineWritten.the-variants.{Upto, NotInRange, NoRoom}
@@ -86,3 +87,14 @@ put-short l at t n =
 pub printed-untouched : PrintedUntouched
 printed-untouched l (Next p) x n = put-short l p (printedText x) n
 printed-untouched l Short x n = refl
+
+pub said-printed : SaidPrinted
+unfolding answerLine
+said-printed n Dash = refl
+said-printed n Ok = refl
+said-printed n (Value v) = refl
+said-printed n Yes = refl
+said-printed n No = refl
+said-printed n None = refl
+said-printed n (Got w) = refl
+said-printed n (Refused k) = refl

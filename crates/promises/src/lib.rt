@@ -1,6 +1,6 @@
 // The promises about the definitions. Each function does nothing: its contract is a promise, so that the check fails where one
 // no longer holds or is no longer proved.
-ghost use Rattle.number.specs.Promise.{CountReadBack, CountOnlyText, WeightReadBack, WeightOnlyText};
+ghost use Rattle.digits.specs.Promise.{CountReadBack, CountOnlyText, WeightReadBack, WeightOnlyText};
 ghost use Rattle.texts.specs.Promise.{LineReadBack, LineOnlyText, LineOneText};
 ghost use Rattle.texts.specs.Promise.{ScheduleReadBack, ScheduleOnlyText, LineNumbered, JudgedNumbered};
 ghost use Rattle.cases.specs.Table.{StarredHold};
@@ -9,9 +9,9 @@ ghost use Rattle.decision.specs.Known.{StepAnew, StepKnown};
 ghost use Rattle.published.specs.Follows.{TakenFollows, AllowedTaken, OneEvent, DueByCode};
 ghost use Rattle.rules.specs.Queue.{QueueHolds};
 ghost use Rattle.rules.specs.Reached.{ReachedHolds};
-ghost use Rattle.run.specs.Promise.{ReportShort, ReportWhole};
+ghost use Rattle.reported.specs.Promise.{ReportShort, ReportWhole};
 ghost use Rattle.image.specs.Promise.{ImageLong, ImageFaithful};
-ghost use Rattle.promises.specs.Writing.{WrittenBack, OnlyItsBytes, RefusedUntouched, PrintedUntouched};
+ghost use Rattle.promises.specs.Writing.{WrittenBack, OnlyItsBytes, RefusedUntouched, PrintedUntouched, SaidPrinted};
 
 // Each number has one text, and the readers take those texts only.
 pub fn numbers_have_one_text()
@@ -33,9 +33,10 @@ pub fn texts_are_numbered()
     ensures { λ r. ⌜ JudgedNumbered × LineNumbered ⌝ }
 {}
 
-// A line that was written is read back, only its own bytes change, and a refused one changes none, nor does a printed one.
+// A line that was written is read back, only its own bytes change, and a refused one changes none, nor does a printed one. An answer is
+// printed as its word and its values.
 pub fn lines_are_written()
-    ensures { λ r. ⌜ WrittenBack × OnlyItsBytes × RefusedUntouched × PrintedUntouched ⌝ }
+    ensures { λ r. ⌜ WrittenBack × OnlyItsBytes × RefusedUntouched × PrintedUntouched × SaidPrinted ⌝ }
 {}
 
 // The starred cases and the whole listing, as one table under one statement.

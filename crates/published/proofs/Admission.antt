@@ -4,9 +4,9 @@ use mathlib.Core.Bool.{false}
 use mathlib.Core.List.{List}
 use Prim.Native.Nat.{ℕ, _-_}
 use lib.ListN.{length}
+use Rattle.accesses.specs.Accesses.{outdated, amiss}
 use Rattle.refusal.proofs.Passed.{passed, unrefused}
 use Rattle.rules.specs.Access.{foundBy}
-use Rattle.refusal.specs.Refusal.{outdated, amiss}
 use Rattle.rules.specs.Step.{asked, refusalOf}
 use Rattle.published.specs.Follows.{Admitted}
 use Rattle.standing.specs.Stands.{stands}

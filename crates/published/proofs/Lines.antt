@@ -9,11 +9,12 @@ use native.Mathlib.Nat.{mod-lt}
 use borrow.Author.Tests.{leb-false, ltb-false, eqb-true, eqb-false}
 use lib.Dec.{eqb}
 use lib.ListN.{length}
+use Rattle.accesses.specs.Accesses.{full}
 use Rattle.atomic.specs.Atomic.{readAtomic, swapIf, swappedOf}
+use Rattle.places.specs.Places.{dueAt}
 use Rattle.rules.proofs.Moves.{shown, hidden}
 use Rattle.rules.specs.Access.{slotCell, accessOf, foundBy, accessed}
 use Rattle.rules.specs.Calls.{ends, goesOn, looks, wonTo, swaps, closes, resumed, wonAnswer, acted}
-use Rattle.refusal.specs.Refusal.{among, asks, dueAt, named, full}
 use Rattle.rules.specs.Step.{valueOf, counted}
 use Rattle.rules.specs.declared.Done.{Done}
 use Rattle.published.proofs.Admission.{Fits}
@@ -37,6 +38,7 @@ use Rattle.step.specs.declared.Answer.{Answer}
 use Rattle.step.specs.declared.Answer.the-variants.{Dash, Ok, Yes, No, None, Got}
 use Rattle.step.specs.declared.Verb.{Verb}
 use Rattle.step.specs.declared.Verb.the-variants.{Get, Set, Load, Store, Swap, Put, Take, Go, GoAt}
+use Rattle.verbs.specs.Verbs.{among, asks, named}
 use Rattle.writes.specs.Records.{recorded}
 use Rattle.writes.specs.declared.Access.the-variants.{Reads, Writes}
 use Rattle.writes.specs.declared.Write.{Write}

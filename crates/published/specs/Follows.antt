@@ -5,10 +5,11 @@ use mathlib.Core.List.{List}
 use mathlib.Core.Logic.{_⊎_, _≢_}
 use Prim.Native.Nat.{ℕ, _-_, _<_, _≤_}
 use lib.ListN.{length}
+use Rattle.accesses.specs.Accesses.{full}
+use Rattle.places.specs.Places.{dueAt}
 use Rattle.rules.specs.Step.{asked, stepOf}
 use Rattle.published.specs.Calls.{Code, Makes, restOf, waitsFor, codeOf, stampIn, answers}
 use Rattle.published.specs.Memory.{Stamps, Memory, Event, Rule}
-use Rattle.refusal.specs.Refusal.{asks, dueAt, named, greatest, full}
 use Rattle.standing.specs.Stands.{stands}
 use Rattle.state.specs.State.{cellsOf, row, place, atomicAt, firstOf, Whole}
 use Rattle.state.specs.declared.Machine.{Machine}
@@ -20,6 +21,7 @@ use Rattle.step.specs.Limit.{most}
 use Rattle.step.specs.declared.Answer.{Answer}
 use Rattle.step.specs.declared.Answer.the-variants.{Dash}
 use Rattle.step.specs.declared.Step.{Step}
+use Rattle.verbs.specs.Verbs.{asks, named, greatest}
 use Rattle.view.specs.View.{stampOf}
 use Rattle.writes.specs.History.{found}
 use Rattle.writes.specs.declared.Write.{Write}

@@ -10,10 +10,10 @@ use Rattle.number.proofs.Stores.{placed-fits}
 use Rattle.number.specs.Buffer.{placed, putAt, room}
 use Rattle.number.specs.declared.Written.{Written}
 use Rattle.report.specs.Inside.{Inside}
-use Rattle.run.proofs.Short.{report-short, report-whole}
-use Rattle.run.specs.Buffer.{Reports}
-use Rattle.run.specs.Report.{reported}
-use Rattle.run.specs.declared.Reported.{Reported}
+use Rattle.reported.proofs.Short.{report-short, report-whole}
+use Rattle.reported.specs.Buffer.{Reports}
+use Rattle.reported.specs.Report.{reported}
+use Rattle.reported.specs.declared.Reported.{Reported}
 
 pub put-inside : (l t : List ℕ) {m : List ℕ} {w : Written} → length t ≤ length l → (w ≡ putAt l 0 t) × (m ≡ placed l 0 t) → Inside w (length m)
 unfolding putAt room

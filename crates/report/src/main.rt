@@ -36,7 +36,7 @@ fn show_line(line: Printed)
 fn show_report(text: &[u8], out: &mut [u8])
     requires { ⌜ 131072 ≤ length (now out) ⌝ }
 {
-    let r = run::report(text, out);
+    let r = reported::report(text, out);
     let first = r.first;
     let upto = r.upto;
     show_line(first);

@@ -8,6 +8,8 @@ use native.Mathlib.Decide.{decLt}
 use borrow.Author.Tests.{leb-true, leb-false, le-leb, le-ltb}
 use lib.Dec.{eqb}
 use lib.ListN.{length}
+use Rattle.accesses.specs.Accesses.{full}
+use Rattle.parts.specs.Parts.{firstsStand}
 use Rattle.rules.proofs.Parts.{row-fits, held-fits}
 use Rattle.rules.proofs.Standing.{NotesFit, Fits, slot-in}
 use Rattle.refusal.proofs.Passed.{among-some}
@@ -15,9 +17,7 @@ use Rattle.rules.proofs.Views.{stamped-stands}
 use Rattle.laws.proofs.Tests.{apart, together, neither, each}
 use Rattle.laws.specs.Tests.{_and_, allBelow}
 use Rattle.rules.specs.Access.{slotCell, stampedAt, accessOf, foundBy, accessed}
-use Rattle.refusal.specs.Refusal.{named, greatest, full}
 use Rattle.rules.specs.Step.{valueOf}
-use Rattle.standing.specs.Stands.{firstsStand}
 use Rattle.state.specs.State.{cellsOf, row, withRow, firstOf}
 use Rattle.state.specs.declared.Machine.{Machine}
 use Rattle.state.specs.declared.Place.{Place}
@@ -25,6 +25,7 @@ use Rattle.state.specs.declared.Place.the-variants.{Idle, PutStatus, PutSwap, P
 use Rattle.step.specs.Limit.{most}
 use Rattle.step.specs.declared.Verb.{Verb}
 use Rattle.step.specs.declared.Verb.the-variants.{Get, Set, Load, Store, Swap, Put, Take, Go, GoAt}
+use Rattle.verbs.specs.Verbs.{named, greatest}
 use Rattle.view.specs.View.{withStamp}
 use Rattle.writes.specs.History.{earlier, presentIf, shownBy, found, recordStands, recordsStand}
 use Rattle.writes.specs.Records.{write, recorded}

@@ -4,14 +4,13 @@ use mathlib.Core.Bool.{Bool, true, false}
 use mathlib.Core.List.{List}
 use Prim.Native.Nat.{ℕ, _-_, _<_, _≤_}
 use native.Mathlib.Omega.{arith}
+use Rattle.places.specs.Places.{rankOf, weightOf}
 use Rattle.rules.proofs.Memory.{read-fits, write-fits, swap-fits}
 use Rattle.rules.proofs.Parts.{Known, highest, place-fits}
 use Rattle.rules.proofs.Standing.{NotesFit, highStatus, Fits, slot-in}
 use Rattle.refusal.proofs.Passed.{among-some}
 use Rattle.rules.specs.Calls.{goesOn, statusName, looks, swaps, closes, resumed, acted}
-use Rattle.refusal.specs.Refusal.{among, named, greatest}
 use Rattle.rank.specs.Rank.{nextRank, freeStatus, fullStatus, lapped}
-use Rattle.standing.specs.Stands.{rankOf, weightOf}
 use Rattle.state.specs.State.{place, withPlace}
 use Rattle.state.specs.declared.Machine.{Machine}
 use Rattle.state.specs.declared.Name.{Name}
@@ -23,6 +22,7 @@ use Rattle.step.specs.declared.Answer.{Answer}
 use Rattle.step.specs.declared.Answer.the-variants.{Yes, No, None, Got}
 use Rattle.step.specs.declared.Verb.{Verb}
 use Rattle.step.specs.declared.Verb.the-variants.{Get, Set, Load, Store, Swap, Put, Take, Go, GoAt}
+use Rattle.verbs.specs.Verbs.{among, named, greatest}
 use Rattle.writes.specs.declared.Write.{Write}
 
 -- a thread goes idle

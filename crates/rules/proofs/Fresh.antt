@@ -7,6 +7,7 @@ use native.Mathlib.Omega.{arith}
 use borrow.Author.Tests.{leb-true, le-leb}
 use lib.Dec.{ltb}
 use lib.ListN.{length, getD, replicate, length-replicate}
+use Rattle.parts.specs.Parts.{firstsStand}
 use Rattle.rules.proofs.Standing.{AllFit, Fits, stand}
 use Rattle.rules.proofs.Views.{stamps}
 use Rattle.rules.specs.Kept.{FreshStands, RefusedFalls}
@@ -16,7 +17,7 @@ use Rattle.laws.specs.Lists.{filled}
 use Rattle.laws.specs.Tests.{_and_, allBelow}
 use Rattle.opening.specs.Opening.{weightsStand, givenRoom, flagsRoom, statusesRoom, unmoved, fresh, refusedOpening, openedIf, openedOf}
 use Rattle.rank.specs.Rank.{freeStatus}
-use Rattle.standing.specs.Stands.{inShape, shapeStands, sizesStand, firstsStand, stands}
+use Rattle.standing.specs.Stands.{inShape, shapeStands, sizesStand, stands}
 use Rattle.state.specs.State.{atomic, zeroAtomic, at, row, place, givenIf, firstOf}
 use Rattle.state.specs.declared.Machine.{Machine}
 use Rattle.state.specs.declared.Place.the-variants.{Idle}

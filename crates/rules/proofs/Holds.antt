@@ -5,6 +5,7 @@ use mathlib.Core.Option.{Option, none, some}
 use Prim.Native.Nat.{ℕ, _+_, _-_}
 use native.Mathlib.Omega.{arith}
 use borrow.Author.Tests.{ltb-false}
+use Rattle.accesses.specs.Accesses.{outdated, amiss}
 use Rattle.rules.proofs.Refused.{numbered}
 use Rattle.rules.specs.Access.{slotCell, stampedAt, foundBy}
 use Rattle.rules.specs.Step.{asked, refusalOf}
@@ -20,8 +21,8 @@ use Rattle.rules.specs.Notes.{Point, Throughout, Deed, threadOf, deedAt,
 use Rattle.rules.specs.Queue.{CoversPutter, goAt, Taken, Queue, QueueHolds}
 use Rattle.rules.specs.Reached.{AllInHistory, NonePast, Reached, ReachedHolds}
 use Rattle.rank.specs.Rank.{slotOf}
-use Rattle.refusal.proofs.Passed.{passed}
-use Rattle.refusal.specs.Refusal.{outdated, amiss}
+use Rattle.laws.specs.Tests.{_and_}
+use Rattle.refusal.proofs.Passed.{others, passed}
 use Rattle.standing.proofs.Bounds.{bounds}
 use Rattle.state.specs.State.{cellsOf, row, place, firstOf}
 use Rattle.state.specs.declared.Place.{Place}
@@ -82,6 +83,7 @@ module _ (p : Point) (S : Sound p) where
       found-under (firstOf m (j + 1 - 1)) (p .writes) (j + 1) (stampOf v j) _ (m .held) (shown _ (ap not (f j l)))
 
   reached : Reached p
+  unfolding others _and_
   reached =
       record {
         views-known = (S .recall .rows, S .recall .cells);
@@ -89,7 +91,7 @@ module _ (p : Point) (S : Sound p) where
         distinct = (S .recall .distinct, S .recall .positive);
         unstuck = λ s c e.
             let r = never (p .machine) (bounds (p .machine) (p .writes) (S .stand)) (p .writes) (S .recall) s c e in
-            (r 12 (omega arith) (omega arith), r 13 (omega arith) (omega arith));
+            (r 12 (omega arith) refl, r 13 (omega arith) refl);
       }
 
 -- Demand 3.

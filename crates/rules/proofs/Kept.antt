@@ -5,6 +5,7 @@ use mathlib.Core.List.{List}
 use Prim.Native.Nat.{ℕ, zero, suc, _+_, _-_, _<_}
 use native.Mathlib.Omega.{arith}
 use lib.ListN.{length}
+use Rattle.places.specs.Places.{rankOf}
 use Rattle.rules.proofs.Access.{value-fits, access-fits, accessed-fits}
 use Rattle.rules.proofs.Calls.{acted-fits}
 use Rattle.rules.proofs.Parts.{raised}
@@ -13,12 +14,12 @@ use Rattle.rules.proofs.Accessed.{accessed-shape}
 use Rattle.refusal.proofs.Passed.{Passed, passed}
 use Rattle.rules.specs.Kept.{StandingKept}
 use Rattle.rules.specs.Access.{foundBy, accessed}
-use Rattle.refusal.specs.Refusal.{named}
 use Rattle.rules.specs.Step.{takenBy, decidedBy, asked, refusalOf, decidedOf, stepOf}
-use Rattle.standing.specs.Stands.{rankOf, stands}
+use Rattle.standing.specs.Stands.{stands}
 use Rattle.state.specs.State.{place}
 use Rattle.state.specs.declared.Machine.{Machine}
 use Rattle.step.specs.declared.Step.{Step}
+use Rattle.verbs.specs.Verbs.{named}
 use Rattle.writes.specs.Records.{recorded}
 use Rattle.writes.specs.declared.Access.{Access}
 use Rattle.writes.specs.declared.Found.{Found}

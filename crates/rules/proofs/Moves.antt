@@ -7,8 +7,10 @@ use native.Mathlib.Omega.{arith}
 use borrow.Author.Tests.{eqb-true, leb-false, ltb-false}
 use lib.Dec.{eqb}
 use lib.ListN.{length}
+use Rattle.accesses.specs.Accesses.{full, outdated, present, amiss}
 use Rattle.atomic.specs.Atomic.{readAtomic, swapIf, swappedOf}
 use Rattle.laws.proofs.Tests.{neither}
+use Rattle.places.specs.Places.{dueAt}
 use Rattle.rules.proofs.Accessed.{accessed-place}
 use Rattle.rules.specs.Access.{slotCell, accessOf, foundBy, accessed}
 use Rattle.rules.specs.Calls.{goesOn, statusName, looks, wonTo, swaps, closes, resumed, wonAnswer, acted}
@@ -18,7 +20,6 @@ use Rattle.rules.proofs.Events.{Reading, Writing, Looking, Storing, is-
 use Rattle.rules.proofs.Ranks.{slot-in}
 use Rattle.rank.specs.Rank.{nextRank, freeStatus, fullStatus, lapped}
 use Rattle.refusal.proofs.Passed.{Passed, passed, among-some}
-use Rattle.refusal.specs.Refusal.{among, asks, dueAt, named, full, outdated, present, amiss}
 use Rattle.standing.proofs.Bounds.{Bounds, bounds}
 use Rattle.standing.specs.Stands.{stands}
 use Rattle.state.proofs.Changed.{Room}
@@ -34,6 +35,7 @@ use Rattle.step.specs.declared.Answer.the-variants.{Dash, Ok, Value, Yes, No, N
 use Rattle.step.specs.declared.Step.{Step}
 use Rattle.step.specs.declared.Verb.{Verb}
 use Rattle.step.specs.declared.Verb.the-variants.{Get, Set, Load, Store, Swap, Put, Take, Go, GoAt}
+use Rattle.verbs.specs.Verbs.{among, asks, named}
 use Rattle.writes.specs.Records.{recorded}
 use Rattle.writes.specs.declared.Access.the-variants.{Reads, Writes}
 use Rattle.writes.specs.declared.Found.{Found}

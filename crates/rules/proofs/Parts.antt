@@ -6,9 +6,9 @@ use Prim.Native.Nat.{ℕ, _+_, _<_}
 use native.Mathlib.Numerals.{add-one}
 use native.Mathlib.Omega.{arith}
 use lib.ListN.{length, set}
+use Rattle.parts.specs.Parts.{firstsStand}
 use Rattle.rules.proofs.Standing.{NotesFit, AtomicFits, AllFit, highStatus, Fits}
 use Rattle.laws.proofs.Lists.{set-length, set-either}
-use Rattle.standing.specs.Stands.{firstsStand}
 use Rattle.state.specs.Fields.{withHeld, withFlags, withHead, withTail, withStatuses}
 use Rattle.state.specs.State.{zeroAtomic, at, cellsOf, row, withRow, place, withPlace, atomicAt, withAtomic, firstOf}
 use Rattle.state.specs.declared.Atomic.{Atomic}

@@ -8,6 +8,7 @@ use native.Mathlib.Decide.{ℕ-discrete, decLt}
 use native.Mathlib.Omega.{arith}
 use borrow.Author.Tests.{eq-eqb}
 use lib.ListN.{length, set}
+use Rattle.accesses.specs.Accesses.{present}
 use Rattle.atomic.specs.Atomic.{met, told}
 use Rattle.laws.proofs.Lists.{set-here, set-else}
 use Rattle.laws.specs.Tests.{_and_}
@@ -20,7 +21,6 @@ use Rattle.rules.proofs.Moves.{Moves}
 use Rattle.rules.proofs.Ranks.{slot-in}
 use Rattle.rules.proofs.Updated.{at-each}
 use Rattle.rank.specs.Rank.{nextRank, freeStatus, fullStatus, lapped}
-use Rattle.refusal.specs.Refusal.{present}
 use Rattle.standing.proofs.Bounds.{Bounds}
 use Rattle.state.proofs.Changed.{stamp-here, stamp-else}
 use Rattle.state.specs.State.{cellsOf, row, atomicAt, firstOf, Whole}

@@ -19,7 +19,6 @@ use Rattle.rules.specs.Calls.{goesOn, statusName, looks, swaps, closes, 
 use Rattle.rules.specs.Step.{takenBy, decidedBy, asked, refusalOf, decidedOf, stepOf}
 use Rattle.rank.specs.Rank.{nextRank}
 use Rattle.refusal.proofs.Passed.{Passed, passed}
-use Rattle.refusal.specs.Refusal.{named}
 use Rattle.standing.specs.Stands.{stands}
 use Rattle.state.proofs.Changed.{stamp-else, atomics-same, atomic-leaves}
 use Rattle.state.specs.Fields.{withSteps, withHeld}
@@ -37,6 +36,7 @@ use Rattle.step.specs.declared.Answer.the-variants.{No, None}
 use Rattle.step.specs.declared.Step.{Step}
 use Rattle.step.specs.declared.Verb.{Verb}
 use Rattle.step.specs.declared.Verb.the-variants.{Get, Set, Load, Store, Swap, Put, Take, Go, GoAt}
+use Rattle.verbs.specs.Verbs.{named}
 use Rattle.view.proofs.Joined.{join-else}
 use Rattle.view.specs.View.{zeroView, stampOf, withStamp}
 use Rattle.view.specs.declared.View.{View}

@@ -7,8 +7,10 @@ use native.Mathlib.Nat.{mod-lt}
 use borrow.Author.Tests.{leb-true, le-leb}
 use lib.ListN.{length, getD}
 use Rattle.laws.proofs.Tests.{apart, together, each, every}
+use Rattle.parts.specs.Parts.{threadStands, threadsStand, firstsStand, atomicStands, atomicsStand, cellsStand, partsStand}
+use Rattle.places.specs.Places.{rankOf, weightOf, placeStands}
 use Rattle.rank.specs.Rank.{slotOf}
-use Rattle.standing.specs.Stands.{inShape, shapeStands, sizesStand, rankOf, weightOf, placeStands, threadStands, threadsStand, firstsStand, atomicStands, atomicsStand, cellsStand, partsStand, stands}
+use Rattle.standing.specs.Stands.{inShape, shapeStands, sizesStand, stands}
 use Rattle.state.specs.Fields.{withSteps}
 use Rattle.state.specs.State.{zeroAtomic, cellsOf, row, place, atomicAt, firstOf}
 use Rattle.state.specs.declared.Atomic.{Atomic}

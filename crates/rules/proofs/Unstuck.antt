@@ -1,20 +1,19 @@
 -- A plain read at a stamp that the view allows and the history has is not refused by 12 or 13. Assumes nothing.
-use mathlib.Core.Path.{_≡_, refl, sym, subst, _∙_}
-use mathlib.Core.Bool.{Bool, true, false, not}
+use mathlib.Core.Path.{_≡_, sym, subst, _∙_}
+use mathlib.Core.Bool.{true}
 use mathlib.Core.List.{List}
 use mathlib.Core.Logic.{_≢_}
 use Prim.Native.Nat.{ℕ, _+_, _-_, _<_, _≤_}
 use native.Mathlib.Omega.{arith}
-use borrow.Author.Tests.{le-ltb, not-false}
-use lib.Dec.{leb, ltb, eqb}
+use borrow.Author.Tests.{le-ltb}
 use lib.ListN.{length}
+use Rattle.accesses.specs.Accesses.{present}
 use Rattle.rules.proofs.Refused.{numbered}
 use Rattle.rules.specs.Access.{slotCell, stampedAt, accessOf, foundBy}
 use Rattle.rules.specs.Step.{asked, refusalOf, stepOf}
 use Rattle.rules.proofs.Ranks.{slot-in}
 use Rattle.rules.proofs.Recalled.{Recalled}
-use Rattle.refusal.proofs.Passed.{among-some}
-use Rattle.refusal.specs.Refusal.{refuse, among, asks, dueAt, named, greatest, full, outdated, present, amiss, refusalBy}
+use Rattle.refusal.proofs.Passed.{among-some, others, early, past-early}
 use Rattle.standing.proofs.Bounds.{Bounds}
 use Rattle.standing.specs.Stands.{stands}
 use Rattle.state.specs.State.{cellsOf, row, place, firstOf}
@@ -22,34 +21,14 @@ use Rattle.state.specs.declared.Machine.{Machine}
 use Rattle.state.specs.declared.Place.{Place}
 use Rattle.state.specs.declared.Place.the-variants.{Idle, PutStatus, PutSwap, PutWrite, PutPublish, TakeStatus, TakeSwap, TakeRead, TakeFree}
 use Rattle.step.specs.Answer.{numberOf}
-use Rattle.step.specs.Limit.{most}
 use Rattle.step.specs.declared.Step.{Step}
 use Rattle.step.specs.declared.Verb.{Verb}
 use Rattle.step.specs.declared.Verb.the-variants.{Get, Set, Load, Store, Swap, Put, Take, Go, GoAt}
+use Rattle.verbs.specs.Verbs.{named}
 use Rattle.view.specs.View.{stampOf}
 use Rattle.writes.specs.declared.Access.{Access}
 use Rattle.writes.specs.declared.Access.the-variants.{NoAccess, Reads, Writes}
-use Rattle.writes.specs.declared.Found.{Found}
 use Rattle.writes.specs.declared.Write.{Write}
-
--- a number other than the one that a test gives: the test failed
-beyond : (b : Bool) (k rest r : ℕ) → k ≢ r → refuse b k rest ≡ r → (b ≡ false) × (rest ≡ r)
-beyond true k rest r n e = absurd (n e)
-beyond false k rest r n e = (refl, e)
-
--- 12 or 13 is given only past the tests before them
-late : (stand : Bool) (m : Machine) (lent : ℕ) (s : Step) (a : Access) (f : Found) (r : ℕ) → 11 < r → r < 14 → refusalBy stand m lent s a f ≡ r
-    → (named (m .shape) (s .verb) ≡ true) × (refuse (outdated a (row m (s .thread - 1))) 12 (refuse (amiss a f) 13 0) ≡ r)
-unfolding refusalBy
-late stand m lent s a f r p q e =
-    let t14 = beyond (not stand) 14 _ r (omega arith) e in
-    let t6 = beyond (leb 4096 (m .steps)) 6 _ r (omega arith) (t14 .1) in
-    let t7 = beyond (not (among (s .thread) (m .shape .threads))) 7 _ r (omega arith) (t6 .1) in
-    let t8 = beyond (not (eqb (asks (s .verb)) (dueAt (place m (s .thread - 1))))) 8 _ r (omega arith) (t7 .1) in
-    let t9 = beyond (not (named (m .shape) (s .verb))) 9 _ r (omega arith) (t8 .1) in
-    let t10 = beyond (ltb most (greatest (s .verb))) 10 _ r (omega arith) (t9 .1) in
-    let t11 = beyond (full a (m .held) lent) 11 _ r (omega arith) (t10 .1) in
-    (not-false _ (t9 .0), t11 .1)
 
 -- a read is of one of k cells
 abbrev Ranged : ℕ → Access → Type 0
@@ -92,10 +71,11 @@ module _ (m : Machine) (B : Bounds (m .shape)) where
         let d : c - 1 + 1 ≡ c = omega arith in
         rw e (rw d at (K .rows (s .thread - 1) (c - 1) (omega arith)))
 
-    pub never : (r : ℕ) → 11 < r → r < 14 → numberOf (stepOf m ws s .done .answer) ≢ r
+    pub never : (r : ℕ) → 0 < r → others r (early (stands m ws) m (length ws) s (asked m s) (foundBy m ws (asked m s))) ≡ true
+        → numberOf (stepOf m ws s .done .answer) ≢ r
     unfolding refusalOf
-    never r p q h =
-        let l = late (stands m ws) m (length ws) s (asked m s) (foundBy m ws (asked m s)) r p q (sym (numbered m ws s) ∙ h) in
+    never r p n h =
+        let l = past-early (stands m ws) m (length ws) s (asked m s) (foundBy m ws (asked m s)) r n (sym (numbered m ws s) ∙ h) in
         let v = stampOf (row m (s .thread - 1)) (c - 1) in
         let z : 0 ≡ r = rw (e, le-ltb v v (omega arith), rw e at (there (l .0))) at (l .1) in
         omega arith

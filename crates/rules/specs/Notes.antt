@@ -6,9 +6,9 @@ use mathlib.Core.Option.{Option, none, some}
 use Prim.Native.Nat.{ℕ, _-_}
 use lib.Dec.{eqb}
 use lib.ListN.{getD, drop}
+use Rattle.places.specs.Places.{rankOf}
 use Rattle.rules.specs.Step.{stepOf}
 use Rattle.opening.specs.Opening.{openedOf}
-use Rattle.standing.specs.Stands.{rankOf}
 use Rattle.state.specs.State.{row, place}
 use Rattle.state.specs.declared.Machine.{Machine}
 use Rattle.state.specs.declared.Place.{Place}

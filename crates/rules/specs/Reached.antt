@@ -4,10 +4,10 @@ use mathlib.Core.Bool.{true}
 use mathlib.Core.List.{List}
 use mathlib.Core.Logic.{_≢_}
 use Prim.Native.Nat.{ℕ, _+_, _-_, _<_, _≤_}
+use Rattle.accesses.specs.Accesses.{present}
 use Rattle.rules.specs.Kept.{numberGiven}
 use Rattle.rules.specs.Step.{asked}
 use Rattle.rules.specs.Notes.{Point, Throughout, threadOf}
-use Rattle.refusal.specs.Refusal.{present}
 use Rattle.state.specs.State.{cellsOf, row, atomicAt, firstOf}
 use Rattle.state.specs.declared.Machine.{Machine}
 use Rattle.state.specs.declared.Name.{Name}

@@ -1,10 +1,3 @@
-pub mod Lines
-pub mod Page
 pub mod Runs
 pub mod Turns
-pub mod Taken
-pub mod Whole
-pub mod Answers
-pub mod Comes
-pub mod Short
 pub mod Determined

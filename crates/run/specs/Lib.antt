@@ -1,5 +1,2 @@
 pub mod Run
-pub mod Report
-pub mod Buffer
-pub mod Going
-pub mod Promise
+pub mod Ends

@@ -1,12 +1,12 @@
-// The whole text of a schedule: judged from the front, section by section, one line at a time from a reader.
+// The sections of a schedule's text: what is found of them and which line is due, one line passed at a time.
 use fault::Refusal;
 use form::Due;
 use form::Header;
 use form::Line;
 use line::LineRead;
 ghost use mathlib.Core.Path.{_≡_};
-ghost use Rattle.schedule.specs.Sections.{countIn, judged};
-ghost use Rattle.schedule.specs.Judging.{stopped, begun, lineDue, dueIn, linesUnder, noted, goesOn, nextHeader, settled, opened, afterLine, endedAt};
+ghost use Rattle.schedule.specs.Sections.{countIn, linesUnder, lineDue, noted};
+ghost use Rattle.schedule.specs.Judging.{stopped, begun, dueIn, headerAt, settled, opened, afterLine, endedAt};
 
 // So many lines, and the place of the first of them.
 pub struct Section {
@@ -35,16 +35,28 @@ pub enum Passed {
     Stuck(Refusal),
 }
 
-// How far a text is judged: whether a line is due, and at which place; the section in hand and how many lines of it are left (where none
-// is, its header line is due); what was found so far; and, once no line is due, what was passed last.
-struct Progress {
-    on: bool,
-    at: usize,
-    section: Header,
-    left: u32,
-    found: Sections,
-    last: Passed,
+// How far a text is judged: whether a line is due, and at which place; the section in hand, which header line is next, and how many lines
+// of the section are left (where none is, its header line is due); what was found so far; and, once no line is due, what was passed last.
+pub struct Progress {
+    pub on: bool,
+    pub at: usize,
+    pub section: Header,
+    pub next: usize,
+    pub left: u32,
+    pub found: Sections,
+    pub last: Passed,
 }
+
+const HEADER_TOTAL: usize = 5;
+
+// The header lines after that of the shape, in their order.
+const HEADERS: [Header; HEADER_TOTAL] = [
+    Header::Threads,
+    Header::Slots,
+    Header::Plain,
+    Header::Flag,
+    Header::Steps,
+];
 
 // The count that a header line gives.
 fn count_in(line: Line) -> u32
@@ -58,7 +70,7 @@ fn count_in(line: Line) -> u32
 }
 
 // Before the first line of a text of a length.
-fn begin(len: usize) -> Progress
+pub fn begin(len: usize) -> Progress
     ensures { λ r. ⌜ r ≡ begun len ⌝ }
 {
     let none = Section { count: 0, at: 0 };
@@ -76,6 +88,7 @@ fn begin(len: usize) -> Progress
             on: true,
             at: 0,
             section: Header::Shape,
+            next: 0,
             left: 0,
             found,
             last: Passed::Past(0, 0),
@@ -90,7 +103,8 @@ fn stop(last: Passed, at: usize, found: Sections) -> Progress
     Progress {
         on: false,
         at,
-        section: Header::Steps,
+        section: Header::Shape,
+        next: 0,
         left: 0,
         found,
         last,
@@ -112,7 +126,7 @@ fn line_due(h: Header) -> Due
 }
 
 // The line that is due.
-fn due_in(g: Progress) -> Due
+pub fn due_in(g: Progress) -> Due
     ensures { λ r. ⌜ r ≡ dueIn g ⌝ }
 {
     let h = g.section;
@@ -168,67 +182,55 @@ fn note(h: Header, n: u32, at: usize, found: Sections) -> Sections
     }
 }
 
-// Whether a section comes after this one, and the header line that is due there.
-fn goes_on(h: Header) -> bool
-    ensures { λ r. ⌜ r ≡ goesOn h ⌝ }
+// A header line by its place among those after the shape's.
+fn header_at(k: usize) -> Header
+    ensures { λ r. ⌜ r ≡ headerAt k ⌝ }
 {
-    match h {
-        Header::Shape => true,
-        Header::Threads => true,
-        Header::Slots => true,
-        Header::Plain => true,
-        Header::Flag => true,
-        Header::Steps => false,
-    }
-}
-
-fn next_header(h: Header) -> Header
-    ensures { λ r. ⌜ r ≡ nextHeader h ⌝ }
-{
-    match h {
-        Header::Shape => Header::Threads,
-        Header::Threads => Header::Slots,
-        Header::Slots => Header::Plain,
-        Header::Plain => Header::Flag,
-        Header::Flag => Header::Steps,
-        Header::Steps => Header::Steps,
+    if k < HEADER_TOTAL {
+        HEADERS[k]
+    } else {
+        Header::Steps
     }
 }
 
 // So many lines of a section are left.
-fn settle(h: Header, left: u32, at: usize, found: Sections) -> Progress
-    ensures { λ r. ⌜ r ≡ settled h left at found ⌝ }
+fn settle(h: Header, next: usize, left: u32, at: usize, found: Sections) -> Progress
+    ensures { λ r. ⌜ r ≡ settled h next left at found ⌝ }
 {
-    if left == 0 {
-        Progress {
-            on: goes_on(h),
-            at,
-            section: next_header(h),
-            left: 0,
-            found,
-            last: Passed::Past(0, at),
-        }
-    } else {
-        Progress {
+    if 0 < left {
+        return Progress {
             on: true,
             at,
             section: h,
+            next,
             left,
             found,
             last: Passed::Past(0, at),
-        }
+        };
     }
+    if next < HEADER_TOTAL {
+        return Progress {
+            on: true,
+            at,
+            section: header_at(next),
+            next: next + 1,
+            left: 0,
+            found,
+            last: Passed::Past(0, at),
+        };
+    }
+    stop(Passed::Past(0, at), at, found)
 }
 
 // A header line with a count was read.
-fn open_section(h: Header, n: u32, at: usize, found: Sections) -> Progress
-    ensures { λ r. ⌜ r ≡ opened h n at found ⌝ }
+fn open_section(h: Header, next: usize, n: u32, at: usize, found: Sections) -> Progress
+    ensures { λ r. ⌜ r ≡ opened h next n at found ⌝ }
 {
-    settle(h, lines_under(h, n), at, note(h, n, at, found))
+    settle(h, next, lines_under(h, n), at, note(h, n, at, found))
 }
 
 // The line that was due is read.
-fn pass_line(g: Progress, l: LineRead) -> Progress
+pub fn pass_line(g: Progress, l: LineRead) -> Progress
     ensures { λ r. ⌜ r ≡ afterLine g l ⌝ }
 {
     let h = g.section;
@@ -236,9 +238,9 @@ fn pass_line(g: Progress, l: LineRead) -> Progress
     match l {
         LineRead::Took(x, p) => {
             if g.left == 0 {
-                open_section(h, count_in(x), p, found)
+                open_section(h, g.next, count_in(x), p, found)
             } else {
-                settle(h, g.left - 1, p, found)
+                settle(h, g.next, g.left - 1, p, found)
             }
         }
         LineRead::Fault(f) => stop(Passed::Stuck(f), g.at, found),
@@ -246,7 +248,7 @@ fn pass_line(g: Progress, l: LineRead) -> Progress
 }
 
 // The end of a text of a length, once no line is due.
-fn end_text(g: Progress, len: usize) -> Judged
+pub fn end_text(g: Progress, len: usize) -> Judged
     ensures { λ r. ⌜ r ≡ endedAt g len ⌝ }
 {
     let last = g.last;
@@ -261,18 +263,4 @@ fn end_text(g: Progress, len: usize) -> Judged
         }
         Passed::Stuck(f) => Judged::Refused(f),
     }
-}
-
-// A text of any bytes and any length, judged.
-pub fn judge(text: &[u8]) -> Judged
-    ensures { λ r. ⌜ r ≡ judged (now (text .entry)) ⌝ }
-{
-    let mut r = reader::on(text);
-    let mut g = begin(text.len());
-    while g.on {
-        let l = reader::next_line(r, due_in(g));
-        g = pass_line(g, l);
-        r = reader::moved(r, g.at);
-    }
-    end_text(g, text.len())
 }

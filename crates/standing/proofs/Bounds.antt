@@ -6,7 +6,9 @@ use Prim.Native.Nat.{ℕ, _<_, _≤_}
 use borrow.Author.Tests.{leb-true}
 use lib.ListN.{length}
 use Rattle.laws.proofs.Tests.{apart, each}
-use Rattle.standing.specs.Stands.{inShape, shapeStands, sizesStand, rankOf, placeStands, threadStands, threadsStand, partsStand, stands}
+use Rattle.parts.specs.Parts.{threadStands, threadsStand, partsStand}
+use Rattle.places.specs.Places.{rankOf, placeStands}
+use Rattle.standing.specs.Stands.{inShape, shapeStands, sizesStand, stands}
 use Rattle.state.specs.State.{place}
 use Rattle.state.specs.declared.Machine.{Machine}
 use Rattle.state.specs.declared.Shape.{Shape}

@@ -8,27 +8,15 @@ use ghost.Atoms.{Atoms}
 use contract.Monad.{Fun}
 use Rattle.laws.proofs.Determined.{determined, determined-together, OneResult, OneResultOf}
 use Rattle.standing.proofs.in_shape.Reads as in-shape
-use Rattle.standing.proofs.rank_of.Reads as rank-of
 use Rattle.standing.proofs.sizes_stand.Reads as sizes-stand
-use Rattle.standing.proofs.name_in.Reads as name-in
-use Rattle.standing.proofs.parts_stand.Reads as parts-stand
 use Rattle.standing.proofs.stands_by.Reads as stands-by
 use Rattle.standing.proofs.state_stands as state-stands
 
 pub in-shape-determined : OneResult in-shape.Post
 in-shape-determined κs a x y e f = determined
 
-pub rank-of-determined : OneResult rank-of.Post
-rank-of-determined κs a x y e f = determined
-
 pub sizes-stand-determined : OneResult sizes-stand.Post
 sizes-stand-determined κs a x y e f = determined
-
-pub name-in-determined : OneResult name-in.Post
-name-in-determined κs a x y e f = determined
-
-pub parts-stand-determined : OneResult parts-stand.Post
-parts-stand-determined κs a x y e f = determined
 
 pub stands-by-determined : OneResult stands-by.Post
 stands-by-determined κs a x y e f = determined

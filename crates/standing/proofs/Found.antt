@@ -5,8 +5,9 @@ use mathlib.Core.List.{List}
 use Prim.Native.Nat.{ℕ}
 use lib.ListN.{length, take}
 use Rattle.laws.specs.Tests.{_and_}
+use Rattle.parts.specs.Parts.{partsStand}
 use Rattle.standing.proofs.Bounds.{sizes}
-use Rattle.standing.specs.Stands.{sizesStand, partsStand, stands}
+use Rattle.standing.specs.Stands.{sizesStand, stands}
 use Rattle.state.specs.State.{cellsOf}
 use Rattle.state.specs.declared.Machine.{Machine}
 use Rattle.writes.proofs.Searched.{searched-is}

@@ -1,8 +1,10 @@
 // The machine's state by value, and the accessors of its places: total in every index; but for the image of `outside` none else has one.
 ghost use mathlib.Core.Path.{_≡_};
 ghost use Prim.Native.Nat.{_-_};
-ghost use lib.ListN.{getD};
-ghost use Rattle.state.specs.State.{zeroAtomic, row, withRow, place, withPlace, atomicAt, withAtomic, firstOf, cellsOf};
+ghost use lib.ListN.{getD, set};
+ghost use Rattle.view.specs.View.{zeroView};
+ghost use Rattle.state.specs.declared.Place.the-variants.{Idle};
+ghost use Rattle.state.specs.State.{at, zeroAtomic, row, withRow, place, withPlace, atomicAt, withAtomic, firstOf, cellsOf};
 use view::View;
 use view::zero_view;
 
@@ -84,43 +86,76 @@ pub fn held_of(m: Machine) -> usize
 pub fn row_of(m: Machine, i: usize) -> View
     ensures { λ r. ⌜ r ≡ row m i ⌝ }
 {
-    if i < 8 { m.views[i] } else { zero_view() }
+    let views = m.views;
+    row_in(views, i)
+}
+
+// An index goes into an array of its own and never into the whole machine: the compiler then copies that array alone.
+fn row_in(views: [View; 8], i: usize) -> View
+    ensures { λ r. ⌜ r ≡ getD views i zeroView ⌝ }
+{
+    if i < 8 { views[i] } else { zero_view() }
 }
 
 // One row replaced, all others kept.
 pub fn with_row(m: Machine, i: usize, v: View) -> Machine
     ensures { λ r. ⌜ r ≡ withRow m i v ⌝ }
 {
+    let views = m.views;
+    let changed = rows_with(views, i, v);
+    let mut next = m;
+    next.views = changed;
+    next
+}
+
+fn rows_with(views: [View; 8], i: usize, v: View) -> [View; 8]
+    ensures { λ r. ⌜ r ≡ set views i v ⌝ }
+{
+    let mut next = views;
     if i < 8 {
-        let mut next = m;
-        next.views[i] = v;
-        return next;
+        next[i] = v;
     }
-    m
+    next
 }
 
 // Where thread i stands, and idle past the last.
 pub fn place_of(m: Machine, i: usize) -> Place
     ensures { λ r. ⌜ r ≡ place m i ⌝ }
 {
+    let threads = m.threads;
+    let thread = thread_in(threads, i);
+    let p = thread.place;
+    p
+}
+
+fn thread_in(threads: [Thread; 8], i: usize) -> Thread
+    ensures { λ r. ⌜ r ≡ getD threads i (at Idle) ⌝ }
+{
     if i < 8 {
-        let thread = m.threads[i];
-        let p = thread.place;
-        return p;
+        threads[i]
+    } else {
+        Thread { place: Place::Idle }
     }
-    Place::Idle
 }
 
 pub fn with_place(m: Machine, i: usize, p: Place) -> Machine
     ensures { λ r. ⌜ r ≡ withPlace m i p ⌝ }
 {
+    let threads = m.threads;
+    let changed = threads_with(threads, i, p);
+    let mut next = m;
+    next.threads = changed;
+    next
+}
+
+fn threads_with(threads: [Thread; 8], i: usize, p: Place) -> [Thread; 8]
+    ensures { λ r. ⌜ r ≡ set threads i (at p) ⌝ }
+{
+    let mut next = threads;
     if i < 8 {
-        let thread = Thread { place: p };
-        let mut next = m;
-        next.threads[i] = thread;
-        return next;
+        next[i] = Thread { place: p };
     }
-    m
+    next
 }
 
 pub fn atomic_of(m: Machine, name: Name) -> Atomic
@@ -129,9 +164,27 @@ pub fn atomic_of(m: Machine, name: Name) -> Atomic
     match name {
         Name::Head => m.head,
         Name::Tail => m.tail,
-        Name::Flag(f) => { if f < 8 { m.flags[f] } else { zero_atomic() } }
-        Name::Status(s) => { if s < 16 { m.statuses[s] } else { zero_atomic() } }
+        Name::Flag(f) => {
+            let flags = m.flags;
+            flag_in(flags, f)
+        }
+        Name::Status(s) => {
+            let statuses = m.statuses;
+            status_in(statuses, s)
+        }
     }
+}
+
+fn flag_in(flags: [Atomic; 8], f: usize) -> Atomic
+    ensures { λ r. ⌜ r ≡ getD flags f zeroAtomic ⌝ }
+{
+    if f < 8 { flags[f] } else { zero_atomic() }
+}
+
+fn status_in(statuses: [Atomic; 16], s: usize) -> Atomic
+    ensures { λ r. ⌜ r ≡ getD statuses s zeroAtomic ⌝ }
+{
+    if s < 16 { statuses[s] } else { zero_atomic() }
 }
 
 pub fn with_atomic(m: Machine, name: Name, a: Atomic) -> Machine
@@ -148,18 +201,38 @@ pub fn with_atomic(m: Machine, name: Name, a: Atomic) -> Machine
             next
         }
         Name::Flag(f) => {
-            if f < 8 {
-                next.flags[f] = a;
-            }
+            let flags = m.flags;
+            let changed = flags_with(flags, f, a);
+            next.flags = changed;
             next
         }
         Name::Status(s) => {
-            if s < 16 {
-                next.statuses[s] = a;
-            }
+            let statuses = m.statuses;
+            let changed = statuses_with(statuses, s, a);
+            next.statuses = changed;
             next
         }
     }
+}
+
+fn flags_with(flags: [Atomic; 8], f: usize, a: Atomic) -> [Atomic; 8]
+    ensures { λ r. ⌜ r ≡ set flags f a ⌝ }
+{
+    let mut next = flags;
+    if f < 8 {
+        next[f] = a;
+    }
+    next
+}
+
+fn statuses_with(statuses: [Atomic; 16], s: usize, a: Atomic) -> [Atomic; 16]
+    ensures { λ r. ⌜ r ≡ set statuses s a ⌝ }
+{
+    let mut next = statuses;
+    if s < 16 {
+        next[s] = a;
+    }
+    next
 }
 
 // The value of the first write at entry i of a view: the given one of a plain cell, zero of a slot.
@@ -168,15 +241,16 @@ pub fn first_of(m: Machine, i: usize) -> u32
 {
     let shape = m.shape;
     if i < (shape.plain as usize) {
-        return given_at(m, i);
+        let firsts = m.firsts;
+        return given_in(firsts, i);
     }
     0
 }
 
-fn given_at(m: Machine, i: usize) -> u32
-    ensures { λ r. ⌜ r ≡ getD (m .firsts) i 0 ⌝ }
+fn given_in(firsts: [u32; 16], i: usize) -> u32
+    ensures { λ r. ⌜ r ≡ getD firsts i 0 ⌝ }
 {
-    if i < 16 { m.firsts[i] } else { 0 }
+    if i < 16 { firsts[i] } else { 0 }
 }
 
 // Threads, cells and flags count from 1: the place in a list is one less.

@@ -3,8 +3,8 @@ use mathlib.Core.Path.{_≡_, refl, sym, ap, _∙_}
 use mathlib.Core.Bool.{Bool, true, false, cond, _&&_}
 use mathlib.Core.List.{List, [], _∷_, _++_}
 use mathlib.Core.Logic.{⊎-elim}
-use Prim.Native.Nat.{ℕ, zero, suc, _+_, _≤_, _<_}
-use native.Mathlib.Nat.{not-suc-le-zero, eq-or-lt-of-le, le-of-suc-le-suc}
+use Prim.Native.Nat.{ℕ, _+_, _≤_, _<_}
+use native.Mathlib.Nat.{eq-or-lt-of-le}
 use native.Mathlib.Omega.{arith}
 use borrow.Author.Tests.{eqb-true, eq-eqb}
 use lib.Dec.{leb, eqb}
@@ -15,11 +15,13 @@ use Rattle.form.specs.declared.Kind.{Kind}
 use Rattle.form.specs.declared.Kind.the-variants.{Nothing, Count, Thousandths}
 use Rattle.texts.proofs.OnlyLines.{Fits, end-is}
 use Rattle.texts.proofs.Operands.{Formed, placeIn, after-word}
-use Rattle.line.specs.Operand.{spaced, operandAt, afterOperand, afterWord}
+use Rattle.operand.specs.Operand.{spaced, operandAt, afterOperand, afterWord}
 use Rattle.line.specs.Row.{closed, formRow}
-use Rattle.line.specs.declared.Operand.{Operand}
-use Rattle.line.specs.declared.Operand.the-variants.{Good, OutOfRange, NoForm}
+use Rattle.operand.specs.declared.Operand.{Operand}
+use Rattle.operand.specs.declared.Operand.the-variants.{Good, OutOfRange, NoForm}
 use Rattle.laws.proofs.Choice.{either, split, and-left, and-right}
+use Rattle.laws.proofs.Tests.{each}
+use Rattle.laws.specs.Tests.{_and_, allBelow}
 use Rattle.number.proofs.Standing.{stands-append, stands-left, stands-right}
 use Rattle.number.specs.Bytes.{Stands}
 
@@ -34,18 +36,6 @@ differ-not [] y s at h g e = let z : _≡_ {A = ℕ} 0 1 = cc in omega arith
 differ-not (a ∷ x) [] s at h g e = let z : _≡_ {A = ℕ} 0 1 = cc in omega arith
 differ-not (a ∷ x) (b ∷ y) s at h g e = differ-not x y s (at + 1) (h .1) (g .1) (simp (eq-eqb a b (sym (h .0) ∙ g .0)) at e)
 
-abbrev allBelow : ℕ → (ℕ → Bool) → Bool
-allBelow zero f = true
-allBelow (suc n) f = f n && allBelow n f
-
-below-all : (n : ℕ) (f : ℕ → Bool) → allBelow n f ≡ true → (k : ℕ) → k < n → f k ≡ true
-below-all zero f e k h = absurd (not-suc-le-zero h)
-below-all (suc n) f e k h =
-    ⊎-elim
-    (λ (q : k ≡ n). ap f q ∙ and-left (f n) (allBelow n f) e)
-    (λ (q : k < n). below-all n f (and-right (f n) (allBelow n f) e) k q)
-    (eq-or-lt-of-le (le-of-suc-le-suc h))
-
 -- the byte after a word: a space before an operand, or the LF
 abbrev follow : Kind → ℕ
 follow Nothing = 10
@@ -56,10 +46,10 @@ unfoldable pub head : ℕ → List ℕ
 head i = wordText (wordOf i) ++ (follow (kindA i) ∷ [])
 
 apart : ℕ → Bool
-apart i = allBelow i (λ j. differ (head j) (head i))
+apart i = allBelow (λ j. differ (head j) (head i)) i
 
-all-apart : allBelow formTotal apart ≡ true
-unfolding apart head formAt forms wordText
+all-apart : allBelow apart formTotal ≡ true
+unfolding apart head formAt forms wordText allBelow _and_
 all-apart = refl
 
 -- a row without a first operand has none
@@ -72,8 +62,8 @@ abbrev packed : Kind → Kind → Kind → Bool
 packed a b c = cond (nothing a) (nothing b && nothing c) true
 
 row-packed : (i : ℕ) → i < formTotal → packed (kindA i) (kindB i) (kindC i) ≡ true
-unfolding formAt forms
-row-packed = below-all formTotal (λ i. packed (kindA i) (kindB i) (kindC i)) refl
+unfolding formAt forms allBelow _and_
+row-packed = each (λ i. packed (kindA i) (kindB i) (kindC i)) formTotal refl
 
 -- a number without a point has at most 4 digits
 abbrev pub short : Kind → Bool
@@ -82,16 +72,16 @@ short (Count low high) = leb high 9999
 short Thousandths = true
 
 pub short-a : (i : ℕ) → i < formTotal → short (kindA i) ≡ true
-unfolding formAt forms
-short-a = below-all formTotal (λ i. short (kindA i)) refl
+unfolding formAt forms allBelow _and_
+short-a = each (λ i. short (kindA i)) formTotal refl
 
 pub short-b : (i : ℕ) → i < formTotal → short (kindB i) ≡ true
-unfolding formAt forms
-short-b = below-all formTotal (λ i. short (kindB i)) refl
+unfolding formAt forms allBelow _and_
+short-b = each (λ i. short (kindB i)) formTotal refl
 
 pub short-c : (i : ℕ) → i < formTotal → short (kindC i) ≡ true
-unfolding formAt forms
-short-c = below-all formTotal (λ i. short (kindC i)) refl
+unfolding formAt forms allBelow _and_
+short-c = each (λ i. short (kindC i)) formTotal refl
 
 is-nothing : (k : Kind) → nothing k ≡ true → k ≡ Nothing
 is-nothing Nothing e = refl
@@ -193,7 +183,7 @@ one-row i j s p hi hj x y =
   where
     later : (i j : ℕ) → j < formTotal → i < j → Stands s p (head i) → Stands s p (head j) → ⊥
     later i j h q x y =
-        differ-not (head i) (head j) s p x y (below-all j (λ i. differ (head i) (head j)) (below-all formTotal apart all-apart j h) i q)
+        differ-not (head i) (head j) s p x y (each (λ i. differ (head i) (head j)) j (each apart formTotal all-apart j h) i q)
 
 -- where a row's text stands, no earlier row fits
 pub others : (i j : ℕ) (s : List ℕ) (l : Operand) (a b c : ℕ) → i < formTotal → j < i → Stands s (placeIn l) (formText i a b c) → Fits (formRow j s l) → ⊥

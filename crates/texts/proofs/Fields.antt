@@ -6,7 +6,7 @@ use native.Mathlib.Omega.{arith}
 use borrow.Author.Tests.{eqb-true}
 use Rattle.form.specs.Line.{leadKind, headerForm, firstForm, formCount, dueOf, fields, stepFields, fieldsOf, verbOf, lineOf, fieldsInRange}
 use Rattle.form.specs.Range.{inRange}
-use Rattle.form.specs.Table.{thread, bareForm, formTotal, forms, formAt, kindA, kindB, kindC}
+use Rattle.form.specs.Table.{thread, stepForms, bareForm, formTotal, forms, formAt, kindA, kindB, kindC}
 use Rattle.form.specs.declared.Due.{Due}
 use Rattle.form.specs.declared.Due.the-variants.{HeaderDue, WeightDue, StepDue}
 use Rattle.form.specs.declared.Fields.{Fields}
@@ -56,7 +56,7 @@ header-fields Plain t a b c r = rw (absent t (r .lead), absent b (r .b), absent 
 header-fields Flag t a b c r = rw (absent t (r .lead), absent b (r .b), absent c (r .c))
 header-fields Steps t a b c r = rw (absent t (r .lead), absent b (r .b), absent c (r .c))
 
-step-fields : (t i a b c : ℕ) → i < 9 → Ranged thread (fields t i a b c) → stepFields t (verbOf i a b c) ≡ fields t i a b c
+step-fields : (t i a b c : ℕ) → i < stepForms → Ranged thread (fields t i a b c) → stepFields t (verbOf i a b c) ≡ fields t i a b c
 unfolding verbOf formAt forms
 step-fields t zero a b c h r = rw (absent c (r .c))
 step-fields t (suc zero) a b c h r = refl
@@ -123,7 +123,7 @@ line-fields (HeaderLine h n) = refl
 line-fields (WeightLine w) = refl
 line-fields (StepLine s) = step-line (s .thread) (s .verb)
 
-step-among : (t : ℕ) (v : Verb) → stepFields t v .form < 9
+step-among : (t : ℕ) (v : Verb) → stepFields t v .form < stepForms
 step-among t (Get a b) = omega arith
 step-among t (Set a b c) = omega arith
 step-among t (Load a) = omega arith

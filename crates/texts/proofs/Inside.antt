@@ -8,7 +8,7 @@ use Rattle.form.specs.Line.{leadKind, dueOf, fieldsOf}
 use Rattle.form.specs.Table.{wordOf, kindA, kindB, kindC}
 use Rattle.form.specs.Text.{operandText, leadText, wordText, formText, fieldsText, lineText}
 use Rattle.form.specs.declared.Line.{Line}
-use Rattle.number.proofs.Digits.{inside}
+use Rattle.digits.proofs.Digits.{inside}
 use Rattle.number.proofs.Standing.{stands-right}
 use Rattle.number.specs.Bytes.{Stands}
 

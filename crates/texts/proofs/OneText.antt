@@ -1,8 +1,8 @@
 -- No two lines in range share a text. Assumes nothing.
-use mathlib.Core.Path.{_≡_, refl, sym, ap, _∙_, subst}
+use mathlib.Core.Path.{_≡_, refl, sym, ap, _∙_}
 use mathlib.Core.Bool.{true, false}
 use mathlib.Core.List.{List, [], _∷_, _++_}
-use Prim.Native.Nat.{ℕ, suc, _+_, _-_, _/_, _^_, _≤_, _<_}
+use Prim.Native.Nat.{ℕ, _+_, _-_, _/_, _^_, _≤_, _<_}
 use native.Mathlib.Omega.{arith}
 use borrow.Author.Tests.{leb-true, le-leb, lt-leb}
 use lib.Dec.{leb}
@@ -10,7 +10,7 @@ use lib.ListN.{getD}
 use Rattle.form.specs.Line.{headerForm, dueOf, fieldsOf, lineInRange}
 use Rattle.step.specs.Limit.{most}
 use Rattle.form.specs.Range.{inRange}
-use Rattle.form.specs.Table.{thread, bareForm, forms, formAt}
+use Rattle.form.specs.Table.{thread, stepForms, bareForm, forms, formAt}
 use Rattle.form.specs.Text.{leadText, wordText, formText, fieldsText, lineText}
 use Rattle.form.specs.declared.Due.{Due}
 use Rattle.form.specs.declared.Due.the-variants.{HeaderDue, WeightDue, StepDue}
@@ -25,14 +25,14 @@ use Rattle.texts.proofs.ReadLines.{line-reads}
 use Rattle.texts.specs.Promise.{LineOneText}
 use Rattle.laws.proofs.Choice.{and-right}
 use Rattle.number.proofs.Decimal.{length-pow}
-use Rattle.number.proofs.Digits.{stop-bad, number-rest}
-use Rattle.number.proofs.ReadBack.{number-reads}
-use Rattle.number.proofs.Standing.{stands-left, stands-right}
+use Rattle.digits.proofs.Digits.{stop-bad, number-rest}
+use Rattle.digits.proofs.ReadBack.{number-reads}
+use Rattle.number.proofs.Standing.{stands-left, stands-right, stands-self}
 use Rattle.number.specs.Bytes.{Stands}
-use Rattle.number.specs.Reading.{isDigit, number}
+use Rattle.digits.specs.Reading.{isDigit, number}
 use Rattle.number.specs.Text.{numberText, lastDigits, weightText}
-use Rattle.number.specs.declared.Reading.{Reading}
-use Rattle.number.specs.declared.Reading.the-variants.{Got, Stopped}
+use Rattle.digits.specs.declared.Reading.{Reading}
+use Rattle.digits.specs.declared.Reading.the-variants.{Got, Stopped}
 
 -- what a line due begins with: a letter, or a number and the byte after it
 abbrev markOf : List ℕ → Reading → ℕ
@@ -88,7 +88,7 @@ line-mark (StepLine t) s at r st =
 
 -- the header of a row
 headerOf : ℕ → Header
-headerOf i = getD (Shape ∷ Threads ∷ Slots ∷ Plain ∷ Flag ∷ Steps ∷ []) (i - 9) Shape
+headerOf i = getD (Shape ∷ Threads ∷ Slots ∷ Plain ∷ Flag ∷ Steps ∷ []) (i - stepForms) Shape
 
 header-of : (h : Header) → headerOf (headerForm h) ≡ h
 unfolding headerOf
@@ -125,14 +125,6 @@ pub same-line : (x y : Line) (s : List ℕ) (at : ℕ) → lineInRange x ≡ tru
 same-line x y s at p q h g =
     let due = same-due x y s at (sym (line-mark x s at p h) ∙ line-mark y s at q g) h g in
     cc (line-reads x s at p h, line-reads y s at q g)
-
-stands-later : (b : ℕ) (s : List ℕ) (at : ℕ) (t : List ℕ) → Stands s at t → Stands (b ∷ s) (suc at) t
-stands-later b s at [] h = tt
-stands-later b s at (x ∷ t) h = (h .0, subst (λ (k : ℕ). Stands (b ∷ s) k t) (omega arith) (stands-later b s (at + 1) t (h .1)))
-
-stands-self : (t : List ℕ) → Stands t 0 t
-stands-self [] = tt
-stands-self (b ∷ t) = (refl, stands-later b t 0 t (stands-self t))
 
 -- no two lines in range share a text
 pub one-line : LineOneText

@@ -15,11 +15,11 @@ use Rattle.form.specs.declared.Fields.{Fields}
 use Rattle.form.specs.declared.Kind.{Kind}
 use Rattle.texts.proofs.Fields.{Ranged, fields-ranged, Among, fields-line, due-line}
 use Rattle.texts.proofs.Operands.{Formed, placeIn, after-word, lead-is, after-is}
-use Rattle.line.specs.Operand.{afterOperand, afterWord, leadAt}
+use Rattle.operand.specs.Operand.{afterOperand, afterWord, leadAt, endAt}
 use Rattle.texts.specs.Promise.{TakenLine, LineOnlyText}
-use Rattle.line.specs.Row.{endAt, inOrder, chosen, finish, closed, formRow, orElse, findForm, dueRow, readLine}
-use Rattle.line.specs.declared.Operand.{Operand}
-use Rattle.line.specs.declared.Operand.the-variants.{Good, OutOfRange, NoForm}
+use Rattle.line.specs.Row.{inOrder, chosen, finish, closed, formRow, orElse, findForm, dueRow, readLine}
+use Rattle.operand.specs.declared.Operand.{Operand}
+use Rattle.operand.specs.declared.Operand.the-variants.{Good, OutOfRange, NoForm}
 use Rattle.line.specs.declared.Row.{Row}
 use Rattle.line.specs.declared.Row.the-variants.{Read, RangeAt, NotForm}
 use Rattle.laws.proofs.Choice.{either}

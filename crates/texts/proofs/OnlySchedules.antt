@@ -1,7 +1,7 @@
 -- Whatever the reader takes is exactly the text of the schedule that it gives. Assumes nothing.
-use mathlib.Core.Path.{_≡_, refl, ap}
+use mathlib.Core.Path.{_≡_, refl, sym, ap, _∙_}
 use mathlib.Core.Bool.{true, false, _&&_}
-use mathlib.Core.List.{List, _∷_, _++_}
+use mathlib.Core.List.{List, [], _∷_, _++_}
 use mathlib.Core.Logic.{⊎-elim}
 use Prim.Native.Nat.{ℕ, zero, suc, _≤_}
 use native.Mathlib.Omega.{arith}
@@ -10,7 +10,7 @@ use lib.Dec.{leb, ltb}
 use lib.ListN.{length, length-map}
 use Rattle.form.specs.Line.{dueOf, fieldsInRange, lineInRange}
 use Rattle.form.specs.Range.{inRange}
-use Rattle.form.specs.Table.{flag, forms, formAt}
+use Rattle.form.specs.Table.{forms, formAt}
 use Rattle.form.specs.Text.{lineText}
 use Rattle.form.specs.declared.Due.{Due}
 use Rattle.form.specs.declared.Due.the-variants.{HeaderDue, WeightDue, StepDue}
@@ -18,7 +18,6 @@ use Rattle.form.specs.declared.Header.{Header}
 use Rattle.form.specs.declared.Header.the-variants.{Shape, Threads, Slots, Plain, Flag, Steps}
 use Rattle.form.specs.declared.Line.{Line}
 use Rattle.form.specs.declared.Line.the-variants.{HeaderLine, WeightLine, StepLine}
-use Rattle.texts.proofs.Apart.{short}
 use Rattle.texts.proofs.Inside.{line-inside}
 use Rattle.texts.proofs.OnlyLines.{line-is}
 use Rattle.texts.specs.Promise.{TakenLine}
@@ -28,24 +27,19 @@ use Rattle.line.specs.declared.LineRead.the-variants.{Took, Fault}
 use Rattle.laws.proofs.Choice.{either, and-left, and-right}
 use Rattle.number.proofs.Standing.{here-then, here-none, stands-whole}
 use Rattle.number.specs.Bytes.{Here}
-use Rattle.number.specs.Reading.{count}
 use Rattle.texts.proofs.Lines.{text-append, range-both, range-cons, AllDue, weights-again, steps-again}
 use Rattle.texts.specs.Promise.{ScheduleOnlyText}
-use Rattle.texts.specs.Schedule.{linesOf, textOf, scheduleText, allInRange, HasText, also, linesFrom, weightIn, stepIn, scheduleOf, schedule, outcome, reads}
-use Rattle.schedule.specs.Sections.{countIn, header, nextLine, linesPast, lines, countOf, sectionOf, ended, foundSections, sections, judged}
+use Rattle.texts.specs.Schedule.{countFor, linesIn, linesFor, linesOf, textOf, scheduleText, allInRange, HasText, also, linesFrom, weightIn, stepIn, scheduleOf, schedule, outcome, reads}
+use Rattle.schedule.specs.Sections.{countIn, header, nextLine, linesPast, linesUnder, lineDue, under, countOf, upto, section, nothingFound, noted, ended, through, headers, sections, judged}
 use Rattle.schedule.specs.declared.Judged.{Judged}
 use Rattle.schedule.specs.declared.Judged.the-variants.{Taken, Refused}
 use Rattle.schedule.specs.declared.Passed.{Passed}
 use Rattle.schedule.specs.declared.Passed.the-variants.{Past, Stuck}
 use Rattle.schedule.specs.declared.Sections.{Sections}
 
-abbrev placeOf : Passed → ℕ
-placeOf (Past n p) = p
-placeOf (Stuck r) = 0
-
 -- lines that were passed
 abbrev Went : Passed → Type 0
-Went m = m ≡ Past (countOf m) (placeOf m)
+Went m = m ≡ Past (countOf m) (upto m)
 
 header-line : (h : Header) (x : Line) → dueOf x ≡ HeaderDue h → x ≡ HeaderLine h (countIn x)
 header-line h (HeaderLine g n) e = let q : g ≡ h = cc in ap (λ (k : Header). HeaderLine k n) q
@@ -55,7 +49,7 @@ header-line h (StepLine s) e = let z : _≡_ {A = ℕ} 0 1 = cc in absurd (omega
 -- a header line that was passed
 pub record PassedHeader (h : Header) (s : List ℕ) (before : Passed) (n p : ℕ) : Type 0 where
   pub went : Went before
-  pub here : Here s (placeOf before) (lineText (HeaderLine h n)) p
+  pub here : Here s (upto before) (lineText (HeaderLine h n)) p
   pub ranged : lineInRange (HeaderLine h n) ≡ true
 
 taken-header : (h : Header) (s : List ℕ) (at : ℕ) (x : Line) (n : ℕ) → TakenLine (HeaderDue h) s at x n
@@ -107,22 +101,18 @@ lines-past zero d s at m p e =
 lines-past (suc n) d s at m p e =
     past-more n d s at m p (readLine d s at) refl e (λ q g. lines-past n d s q m p g)
 
-lines-is : (d : Due) (s : List ℕ) (m : Passed) (n p : ℕ) → lines d s m ≡ Past n p
-    → Went m × PassedLines d s (placeOf m) (countOf m) (linesFrom (countOf m) d s (placeOf m)) p
-lines-is d s (Past k q) n p e = (refl, lines-past k d s q n p e)
-lines-is d s (Stuck r) n p e = let z : _≡_ {A = ℕ} 0 1 = cc in absurd (omega arith)
+under-is : (h : Header) (s : List ℕ) (m : Passed) (n p : ℕ) → under h s m ≡ Past n p
+    → Went m × PassedLines (lineDue h) s (upto m) (linesUnder h (countOf m)) (linesFrom (linesUnder h (countOf m)) (lineDue h) s (upto m)) p
+under-is h s (Past k q) n p e = (refl, lines-past (linesUnder h k) (lineDue h) s q n p e)
+under-is h s (Stuck r) n p e = let z : _≡_ {A = ℕ} 0 1 = cc in absurd (omega arith)
 
-ended-is : (s : List ℕ) (m : Passed) (f x : Sections) → ended s m f ≡ Taken x → Went m × (length s ≤ placeOf m) × (f ≡ x)
+ended-is : (s : List ℕ) (m : Passed) (f x : Sections) → ended s m f ≡ Taken x → Went m × (length s ≤ upto m) × (f ≡ x)
 ended-is s (Stuck r) f x e = let z : _≡_ {A = ℕ} 0 1 = cc in absurd (omega arith)
 ended-is s (Past n p) f x e =
     ⊎-elim
     (λ (l : ltb p (length s) ≡ true). let z : _≡_ {A = ℕ} 0 1 = cc (simp l at e) in absurd (omega arith))
     (λ (l : ltb p (length s) ≡ false). let q : f ≡ x = cc (simp l at e) in (refl, ltb-false p (length s) l, q))
     (either (ltb p (length s)))
-
-section-is : (m : Passed) → sectionOf m ≡ record { count = countOf m; at = placeOf m }
-section-is (Past n p) = refl
-section-is (Stuck r) = refl
 
 -- "`shape` not 2" is out of range
 shape-two : (n : ℕ) → lineInRange (HeaderLine Shape n) ≡ true → n ≡ 2
@@ -131,106 +121,89 @@ shape-two n e =
     let b = and-left (leb 2 n && leb n 2) true e in
     omega (arith, leb-true 2 n (and-left (leb 2 n) (leb n 2) b), leb-true n 2 (and-right (leb 2 n) (leb n 2) b))
 
--- the lines that were found
-abbrev foundLines : List ℕ → Passed → Passed → Passed → Passed → Passed → List Line
-foundLines s threads slots plain flag steps =
-    HeaderLine Shape 2
-    ∷ HeaderLine Threads (countOf threads)
-    ∷ HeaderLine Slots (countOf slots)
-    ∷ HeaderLine Plain (countOf plain)
-    ∷ (linesFrom (countOf plain) WeightDue s (placeOf plain)
-    ++ (HeaderLine Flag (countOf flag)
-    ∷ (linesFrom (countOf flag) WeightDue s (placeOf flag)
-    ++ (HeaderLine Steps (countOf steps)
-    ∷ linesFrom (countOf steps) StepDue s (placeOf steps)))))
+-- where a header line was passed, what was found has what it says
+abbrev Noted : Header → Sections → Passed → Type 0
+Noted Shape x c = Unit {0}
+Noted Threads x c = x .threads ≡ countOf c
+Noted Slots x c = x .slots ≡ countOf c
+Noted Plain x c = x .plain ≡ section (countOf c) (upto c)
+Noted Flag x c = x .flag ≡ section (countOf c) (upto c)
+Noted Steps x c = x .steps ≡ section (countOf c) (upto c)
 
-module _
-    (s : List ℕ)
-    (threads slots plain cells flag flags steps last : Passed)
-    (l1 : PassedLines WeightDue s (placeOf plain) (countOf plain) (linesFrom (countOf plain) WeightDue s (placeOf plain)) (placeOf cells))
-    (l2 : PassedLines WeightDue s (placeOf flag) (countOf flag) (linesFrom (countOf flag) WeightDue s (placeOf flag)) (placeOf flags))
-    (l3 : PassedLines StepDue s (placeOf steps) (countOf steps) (linesFrom (countOf steps) StepDue s (placeOf steps)) (placeOf last)) where
-  -- they are the lines of the schedule that was found
-  lines-found : linesOf (scheduleOf s (foundSections threads slots plain flag steps)) ≡ foundLines s threads slots plain flag steps
-  unfolding linesOf scheduleOf
-  lines-found =
-      let p = linesFrom (countOf plain) WeightDue s (placeOf plain) in
-      let f = linesFrom (countOf flag) WeightDue s (placeOf flag) in
-      let t = linesFrom (countOf steps) StepDue s (placeOf steps) in
-      rw (
-        section-is plain,
-        section-is flag,
-        section-is steps,
-        length-map p weightIn,
-        length-map f weightIn,
-        length-map t stepIn,
-        l1 .size,
-        l2 .size,
-        l3 .size,
-        weights-again p (l1 .due),
-        weights-again f (l2 .due),
-        steps-again t (l3 .due),
-      )
+abbrev AllNoted : List Header → List ℕ → Passed → Sections → Type 0
+AllNoted [] s m x = Unit {0}
+AllNoted (h ∷ hs) s m x = let c = header h s m in Noted h x c × AllNoted hs s (under h s c) x
 
-  module _
-      (shape : Passed)
-      (h1 : PassedHeader Shape s (Past 0 0) (countOf shape) (placeOf shape))
-      (h2 : PassedHeader Threads s shape (countOf threads) (placeOf threads))
-      (h3 : PassedHeader Slots s threads (countOf slots) (placeOf slots))
-      (h4 : PassedHeader Plain s slots (countOf plain) (placeOf plain))
-      (h5 : PassedHeader Flag s cells (countOf flag) (placeOf flag))
-      (h6 : PassedHeader Steps s flags (countOf steps) (placeOf steps)) where
-    -- they stand in the text from its first byte on, each in its range, and end inside it
-    found-here : Here s 0 (textOf (foundLines s threads slots plain flag steps)) (placeOf last)
-    unfolding textOf
-    found-here =
-        let p = linesFrom (countOf plain) WeightDue s (placeOf plain) in
-        let f = linesFrom (countOf flag) WeightDue s (placeOf flag) in
-        let t = linesFrom (countOf steps) StepDue s (placeOf steps) in
-        let first = rw (shape-two (countOf shape) (h1 .ranged)) at (h1 .here) in
-        rw (text-append p (HeaderLine Flag (countOf flag) ∷ (f ++ (HeaderLine Steps (countOf steps) ∷ t))), text-append f (HeaderLine Steps (countOf steps) ∷ t))
-        (here-then first (here-then (h2 .here) (here-then (h3 .here) (here-then (h4 .here)
-        (here-then (l1 .here) (here-then (h5 .here) (here-then (l2 .here) (here-then (h6 .here) (l3 .here)))))))))
+-- then the header line, and the lines under it, are those of the schedule that was found
+module _ (s : List ℕ) (x : Sections) (c : Passed) where
+  abbrev Same : Header → Type 0
+  Same h =
+      let xs = linesFrom (linesUnder h (countOf c)) (lineDue h) s (upto c) in
+      lineInRange (HeaderLine h (countOf c)) ≡ true → AllDue (lineDue h) xs → length xs ≡ linesUnder h (countOf c)
+      → (countFor h (scheduleOf s x) ≡ countOf c) × (linesIn h (scheduleOf s x) ≡ xs)
 
-    found-ranged : allInRange (foundLines s threads slots plain flag steps) ≡ true
-    found-ranged =
-        range-cons _ _ (rw (shape-two (countOf shape) (h1 .ranged)) at (h1 .ranged))
-        (range-cons _ _ (h2 .ranged) (range-cons _ _ (h3 .ranged) (range-cons _ _ (h4 .ranged)
-        (range-both _ _ (l1 .ranged) (range-cons _ _ (h5 .ranged) (range-both _ _ (l2 .ranged) (range-cons _ _ (h6 .ranged) (l3 .ranged))))))))
+  same : (h : Header) → Noted h x c → Same h
+  unfolding scheduleOf linesFrom
+  same Shape n r d l = (sym (shape-two (countOf c) r), refl)
+  same Threads n r d l = (n, refl)
+  same Slots n r d l = (n, refl)
+  same Plain n r d l =
+      let xs = linesFrom (countOf c) WeightDue s (upto c) in rw (n, length-map xs weightIn, weights-again xs d) (l, refl)
+  same Flag n r d l =
+      let xs = linesFrom (countOf c) WeightDue s (upto c) in rw (n, length-map xs weightIn, weights-again xs d) (l, refl)
+  same Steps n r d l =
+      let xs = linesFrom (countOf c) StepDue s (upto c) in rw (n, length-map xs stepIn, steps-again xs d) (l, refl)
 
-    found-inside : placeOf last ≤ length s
-    found-inside =
-        l3 .inside (omega (arith, h6 .here .next, line-inside (HeaderLine Steps (countOf steps)) s (placeOf flags) (h6 .here .stands)))
+-- where header lines are passed to, and what is found
+abbrev lastOf : List Header → List ℕ → Passed → Passed
+lastOf [] s m = m
+lastOf (h ∷ hs) s m = lastOf hs s (under h s (header h s m))
+
+abbrev foundOf : List Header → List ℕ → Passed → Sections → Sections
+foundOf [] s m f = f
+foundOf (h ∷ hs) s m f = let c = header h s m in foundOf hs s (under h s c) (noted h (countOf c) (upto c) f)
+
+through-ends : (hs : List Header) (s : List ℕ) (m : Passed) (f : Sections) → through hs s m f ≡ ended s (lastOf hs s m) (foundOf hs s m f)
+unfolding through
+through-ends [] s m f = refl
+through-ends (h ∷ hs) s m f =
+    let c = header h s m in through-ends hs s (under h s c) (noted h (countOf c) (upto c) f)
+
+-- header lines that were passed, each with the lines under it, are lines of the schedule that was found; they end inside the text
+pub record PassedAll (hs : List Header) (s : List ℕ) (m : Passed) (x : Sections) (p : ℕ) : Type 0 where
+  pub went : Went m
+  pub here : Here s (upto m) (textOf (linesFor hs (scheduleOf s x))) p
+  pub ranged : allInRange (linesFor hs (scheduleOf s x)) ≡ true
+  pub inside : upto m ≤ length s → p ≤ length s
+
+through-is : (hs : List Header) (s : List ℕ) (m : Passed) (x : Sections) → AllNoted hs s m x → Went (lastOf hs s m)
+    → PassedAll hs s m x (upto (lastOf hs s m))
+unfolding linesFor textOf allInRange
+through-is [] s m x a w = record { went = w; here = here-none refl; ranged = refl; inside = λ h. h }
+through-is (h ∷ hs) s m x a w =
+    let c = header h s m in
+    let o = through-is hs s (under h s c) x (a .1) w in
+    let l = under-is h s c (countOf (under h s c)) (upto (under h s c)) (o .went) in
+    let t = header-is h s m (countOf c) (upto c) (l .0) in
+    let e = same s x c h (a .0) (t .ranged) (l .1 .due) (l .1 .size) in
+    let line = HeaderLine h (countOf c) in
+    let xs = linesFrom (linesUnder h (countOf c)) (lineDue h) s (upto c) in
+    let ys = linesFor hs (scheduleOf s x) in
+    record {
+      went = t .went;
+      here = rw (e .0, e .1, text-append xs ys) (here-then (t .here) (here-then (l .1 .here) (o .here)));
+      ranged = rw (e .0, e .1) (range-cons line (xs ++ ys) (t .ranged) (range-both xs ys (l .1 .ranged) (o .ranged)));
+      inside = λ i. o .inside (l .1 .inside (omega (arith, t .here .next, line-inside line s (upto m) (t .here .stands))));
+    }
 
 -- what is taken as sections is the text of those lines
 sections-is : (s : List ℕ) (x : Sections) → sections s ≡ Taken x → (s ≡ scheduleText (scheduleOf s x)) × (allInRange (linesOf (scheduleOf s x)) ≡ true)
-unfolding sections scheduleText
+unfolding sections scheduleText linesOf
 sections-is s x e =
-    let shape = header Shape s (Past 0 0) in
-    let threads = header Threads s shape in
-    let slots = header Slots s threads in
-    let plain = header Plain s slots in
-    let cells = lines WeightDue s plain in
-    let flag = header Flag s cells in
-    let flags = lines WeightDue s flag in
-    let steps = header Steps s flags in
-    let last = lines StepDue s steps in
-    let end = ended-is s last _ x e in
-    let l3 = lines-is StepDue s steps (countOf last) (placeOf last) (end .0) in
-    let h6 = header-is Steps s flags (countOf steps) (placeOf steps) (l3 .0) in
-    let l2 = lines-is WeightDue s flag (countOf flags) (placeOf flags) (h6 .went) in
-    let h5 = header-is Flag s cells (countOf flag) (placeOf flag) (l2 .0) in
-    let l1 = lines-is WeightDue s plain (countOf cells) (placeOf cells) (h5 .went) in
-    let h4 = header-is Plain s slots (countOf plain) (placeOf plain) (l1 .0) in
-    let h3 = header-is Slots s threads (countOf slots) (placeOf slots) (h4 .went) in
-    let h2 = header-is Threads s shape (countOf threads) (placeOf threads) (h3 .went) in
-    let h1 = header-is Shape s (Past 0 0) (countOf shape) (placeOf shape) (h2 .went) in
-    let lines = lines-found s threads slots plain cells flag flags steps last (l1 .1) (l2 .1) (l3 .1) in
-    let here = found-here s threads slots plain cells flag flags steps last (l1 .1) (l2 .1) (l3 .1) shape h1 h2 h3 h4 h5 h6 in
-    let ranged = found-ranged s threads slots plain cells flag flags steps last (l1 .1) (l2 .1) (l3 .1) shape h1 h2 h3 h4 h5 h6 in
-    let inside = found-inside s threads slots plain cells flag flags steps last (l1 .1) (l2 .1) (l3 .1) shape h1 h2 h3 h4 h5 h6 in
-    rw (← end .2, lines)
-    (stands-whole s _ (omega (arith, end .1, here .next, inside)) (here .stands), ranged)
+    let hs = Shape ∷ headers in let first = Past 0 0 in
+    let end = ended-is s (lastOf hs s first) (foundOf hs s first nothingFound) x (sym (through-ends hs s first nothingFound) ∙ e) in
+    let o = through-is hs s first (foundOf hs s first nothingFound) (tt, (refl, (refl, (refl, (refl, (refl, tt)))))) (end .0) in
+    rw (← end .2) (stands-whole s _ (omega (arith, end .1, o .here .next, o .inside (omega arith))) (o .here .stands), o .ranged)
 
 -- whatever the reader takes is exactly the text of the schedule that it gives
 pub schedule-only-text : ScheduleOnlyText

@@ -12,17 +12,17 @@ use Rattle.form.specs.Range.{inRange, limited}
 use Rattle.form.specs.Text.{operandText, leadText, wordText}
 use Rattle.form.specs.declared.Kind.{Kind}
 use Rattle.form.specs.declared.Kind.the-variants.{Nothing, Count, Thousandths}
-use Rattle.line.specs.Operand.{word, ofReading, numberAt, spaced, operandAt, afterOperand, afterWord, spaceAfter, leadAt}
-use Rattle.line.specs.declared.Operand.{Operand}
-use Rattle.line.specs.declared.Operand.the-variants.{Good, OutOfRange, NoForm}
+use Rattle.operand.specs.Operand.{word, ofReading, numberAt, spaced, operandAt, afterOperand, afterWord, spaceAfter, leadAt}
+use Rattle.operand.specs.declared.Operand.{Operand}
+use Rattle.operand.specs.declared.Operand.the-variants.{Good, OutOfRange, NoForm}
 use Rattle.laws.proofs.Choice.{either}
-use Rattle.number.proofs.OnlyTexts.{number-is, weight-is}
+use Rattle.digits.proofs.OnlyTexts.{number-is, weight-is}
 use Rattle.number.proofs.Standing.{here-then, here-none, here-byte}
 use Rattle.number.specs.Bytes.{Here}
-use Rattle.number.specs.Reading.{count, weight}
+use Rattle.digits.specs.Reading.{count, weight}
 use Rattle.number.specs.Text.{numberText, weightText}
-use Rattle.number.specs.declared.Reading.{Reading}
-use Rattle.number.specs.declared.Reading.the-variants.{Got, Stopped}
+use Rattle.digits.specs.declared.Reading.{Reading}
+use Rattle.digits.specs.declared.Reading.the-variants.{Got, Stopped}
 
 -- a field of the right form, in its range or not
 abbrev pub Formed : Operand → Type 0

@@ -1,7 +1,7 @@
 -- A text is refused at a place inside it, and not for its length, if it is not too long. Assumes nothing.
 use Prim.Native.Nat.{ℕ, zero, suc, _≤_}
 use mathlib.Core.Bool.{true, false}
-use mathlib.Core.List.{List}
+use mathlib.Core.List.{List, [], _∷_}
 use mathlib.Core.Logic.{⊎-elim}
 use mathlib.Core.Path.{_≡_, refl, ap}
 use native.Mathlib.Omega.{arith}
@@ -9,9 +9,9 @@ use borrow.Author.Tests.{ltb-false}
 use lib.Dec.{ltb}
 use lib.ListN.{length}
 use Rattle.form.specs.declared.Due.{Due}
-use Rattle.form.specs.declared.Due.the-variants.{HeaderDue, StepDue, WeightDue}
+use Rattle.form.specs.declared.Due.the-variants.{HeaderDue}
 use Rattle.form.specs.declared.Header.{Header}
-use Rattle.form.specs.declared.Header.the-variants.{Flag, Plain, Shape, Slots, Steps, Threads}
+use Rattle.form.specs.declared.Header.the-variants.{Shape}
 use Rattle.laws.proofs.Choice.{either}
 use Rattle.texts.proofs.Inside.{line-inside}
 use Rattle.texts.proofs.OnlyLines.{line-is}
@@ -23,7 +23,7 @@ use Rattle.fault.specs.declared.Refusal.{Refusal}
 use Rattle.line.specs.declared.Row.{Row}
 use Rattle.line.specs.declared.Row.the-variants.{NotForm, RangeAt, Read}
 use Rattle.texts.specs.Schedule.{reads, refusal}
-use Rattle.schedule.specs.Sections.{ended, foundSections, header, judged, lines, linesPast, nextLine, passedLine, sections}
+use Rattle.schedule.specs.Sections.{countOf, ended, header, headers, judged, lineDue, linesPast, linesUnder, nextLine, noted, nothingFound, passedLine, sections, through, under, upto}
 use Rattle.schedule.specs.declared.Judged.{Judged}
 use Rattle.schedule.specs.declared.Judged.the-variants.{Refused, Taken}
 use Rattle.schedule.specs.declared.Passed.{Passed}
@@ -77,9 +77,9 @@ module _ (s : List ℕ) where
   past-in zero d at h = h
   past-in (suc n) d at h = next-in (readLine d s at) (λ p. linesPast n d s p) (line-in d at h) (past-in n d)
 
-  lines-in : (d : Due) (m : Passed) → PassedIn (length s) m → PassedIn (length s) (lines d s m)
-  lines-in d (Past n p) h = past-in n d p h
-  lines-in d (Stuck r) h = h
+  under-in : (g : Header) (m : Passed) → PassedIn (length s) m → PassedIn (length s) (under g s m)
+  under-in g (Past n p) h = past-in (linesUnder g n) (lineDue g) p h
+  under-in g (Stuck r) h = h
 
   ended-in : (m : Passed) (x : Sections) → PassedIn (length s) m → JudgedIn (length s) (ended s m x)
   ended-in (Past n p) x h =
@@ -89,19 +89,16 @@ module _ (s : List ℕ) where
       (either (ltb p (length s)))
   ended-in (Stuck r) x h = h
 
+  through-in : (hs : List Header) (m : Passed) (f : Sections) → PassedIn (length s) m → JudgedIn (length s) (through hs s m f)
+  unfolding through
+  through-in [] m f h = ended-in m f h
+  through-in (g ∷ hs) m f h =
+      let c = header g s m in
+      through-in hs (under g s c) (noted g (countOf c) (upto c) f) (under-in g c (header-in g m h))
+
   pub sections-in : JudgedIn (length s) (sections s)
   unfolding sections
-  sections-in =
-      let shape = header Shape s (Past 0 0) in
-      let threads = header Threads s shape in
-      let slots = header Slots s threads in
-      let plain = header Plain s slots in
-      let flag = header Flag s (lines WeightDue s plain) in
-      let steps = header Steps s (lines WeightDue s flag) in
-      let in-slots = header-in Slots threads (header-in Threads shape (header-in Shape (Past 0 0) (omega arith))) in
-      let in-flag = header-in Flag (lines WeightDue s plain) (lines-in WeightDue plain (header-in Plain slots in-slots)) in
-      let in-steps = header-in Steps (lines WeightDue s flag) (lines-in WeightDue flag in-flag) in
-      ended-in (lines StepDue s steps) (foundSections threads slots plain flag steps) (lines-in StepDue steps in-steps)
+  sections-in = through-in (Shape ∷ headers) (Past 0 0) nothingFound (omega arith)
 
 abbrev PlacedIn : ℕ → Judged → Type 0
 PlacedIn n (Taken x) = Unit {0}

@@ -23,19 +23,19 @@ use Rattle.form.specs.declared.Kind.the-variants.{Nothing, Count, Thousandths}
 use Rattle.texts.proofs.Apart.{short, short-a, short-b, short-c, others}
 use Rattle.texts.proofs.Fields.{Ranged, ranged, Among, among-table, line-fields, line-among}
 use Rattle.texts.proofs.OnlyLines.{Fits}
-use Rattle.line.specs.Operand.{word, numberAt, spaced, operandAt, afterOperand, spaceAfter, leadAt}
+use Rattle.operand.specs.Operand.{word, numberAt, spaced, operandAt, afterOperand, spaceAfter, leadAt}
 use Rattle.texts.specs.Promise.{LineReadBack}
 use Rattle.line.specs.Row.{closed, formRow, findForm, dueRow, readLine}
-use Rattle.line.specs.declared.Operand.{Operand}
-use Rattle.line.specs.declared.Operand.the-variants.{Good}
+use Rattle.operand.specs.declared.Operand.{Operand}
+use Rattle.operand.specs.declared.Operand.the-variants.{Good}
 use Rattle.line.specs.declared.Row.{Row}
 use Rattle.line.specs.declared.Row.the-variants.{Read, RangeAt, NotForm}
 use Rattle.laws.proofs.Choice.{either, and-right}
 use Rattle.number.proofs.Decimal.{length-snoc, length-pow}
-use Rattle.number.proofs.ReadBack.{number-reads, weight-reads}
+use Rattle.digits.proofs.ReadBack.{number-reads, weight-reads}
 use Rattle.number.proofs.Standing.{stands-left, stands-right}
 use Rattle.number.specs.Bytes.{Stands}
-use Rattle.number.specs.Reading.{isDigit}
+use Rattle.digits.specs.Reading.{isDigit}
 use Rattle.number.specs.Text.{numberText, weightText}
 
 word-reads : (w s : List ℕ) (at : ℕ) → Stands s at (wordText w) → word w s at ≡ Good 0 (at + length (wordText w))

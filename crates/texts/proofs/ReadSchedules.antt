@@ -8,7 +8,6 @@ use native.Mathlib.Omega.{arith}
 use borrow.Author.Tests.{le-ltb}
 use lib.ListN.{length, take, length-append, length-map}
 use Rattle.form.specs.Line.{dueOf, lineInRange}
-use Rattle.form.specs.Table.{flag}
 use Rattle.form.specs.Text.{lineText}
 use Rattle.form.specs.declared.Due.{Due}
 use Rattle.form.specs.declared.Due.the-variants.{WeightDue, StepDue}
@@ -23,9 +22,8 @@ use Rattle.number.proofs.Standing.{stands-left, stands-right, stands-self}
 use Rattle.number.specs.Bytes.{Stands}
 use Rattle.texts.proofs.Lines.{text-append, range-left, range-right, range-head, range-tail, AllDue}
 use Rattle.texts.specs.Promise.{ScheduleReadBack}
-use Rattle.texts.specs.Schedule.{Schedule, linesOf, textOf, scheduleText, allInRange, linesFrom, weightIn, stepIn, scheduleOf, schedule, outcome, reads}
-use Rattle.schedule.specs.Sections.{header, linesPast, lines, ended, foundSections, sections, judged}
-use Rattle.schedule.specs.declared.Passed.{Passed}
+use Rattle.texts.specs.Schedule.{Schedule, countFor, linesIn, linesFor, linesOf, textOf, scheduleText, allInRange, linesFrom, weightIn, stepIn, weightsAt, stepsAt, scheduleOf, schedule, outcome, reads}
+use Rattle.schedule.specs.Sections.{header, linesPast, under, section, nothingFound, noted, ended, through, headers, sections, judged}
 use Rattle.schedule.specs.declared.Passed.the-variants.{Past}
 use Rattle.schedule.specs.declared.Sections.{Sections}
 
@@ -80,12 +78,58 @@ stands-lines xs ys s at st =
 length-lines : (xs ys : List Line) → length (textOf (xs ++ ys)) ≡ length (textOf xs) + length (textOf ys)
 length-lines xs ys = ap length (text-append xs ys) ∙ length-append (textOf xs) (textOf ys)
 
-sections-of : (s : List ℕ) (shape threads slots plain cells flag flags steps last : Passed) → header Shape s (Past 0 0) ≡ shape
-    → header Threads s shape ≡ threads → header Slots s threads ≡ slots → header Plain s slots ≡ plain → lines WeightDue s plain ≡ cells
-    → header Flag s cells ≡ flag → lines WeightDue s flag ≡ flags → header Steps s flags ≡ steps → lines StepDue s steps ≡ last
-    → sections s ≡ ended s last (foundSections threads slots plain flag steps)
-unfolding sections
-sections-of s shape threads slots plain cells flag flags steps last e1 e2 e3 e4 e5 e6 e7 e8 e9 = rw (e1, e2, e3, e4, e5, e6, e7, e8, e9)
+-- the lines under a header line at a place are read as what the schedule has there
+abbrev Held : List ℕ → Header → Schedule → ℕ → Type 0
+Held s Shape x p = Unit {0}
+Held s Threads x p = Unit {0}
+Held s Slots x p = Unit {0}
+Held s Plain x p = weightsAt s (section (length (x .plain)) p) ≡ x .plain
+Held s Flag x p = weightsAt s (section (length (x .flag)) p) ≡ x .flag
+Held s Steps x p = stepsAt s (section (length (x .steps)) p) ≡ x .steps
+
+lines-in : (h : Header) (x : Schedule) (s : List ℕ) (p : ℕ) → allInRange (linesIn h x) ≡ true → Stands s p (textOf (linesIn h x))
+    → (under h s (Past (countFor h x) p) ≡ Past 0 (p + length (textOf (linesIn h x)))) × Held s h x p
+unfolding linesPast textOf
+lines-in Shape x s p r st = (rw add-zero, tt)
+lines-in Threads x s p r st = (rw add-zero, tt)
+lines-in Slots x s p r st = (rw add-zero, tt)
+lines-in Plain x s p r st = held-read WeightDue WeightLine weightIn (λ w. refl) (λ w. refl) (x .plain) s p r st
+lines-in Flag x s p r st = held-read WeightDue WeightLine weightIn (λ w. refl) (λ w. refl) (x .flag) s p r st
+lines-in Steps x s p r st = held-read StepDue StepLine stepIn (λ w. refl) (λ w. refl) (x .steps) s p r st
+
+-- where a header line's lines begin, and where they end
+abbrev begins : Header → Schedule → ℕ → ℕ
+begins h x at = at + length (lineText (HeaderLine h (countFor h x)))
+
+abbrev ends : Header → Schedule → ℕ → ℕ
+ends h x at = begins h x at + length (textOf (linesIn h x))
+
+-- what is found of a schedule, and what its lines are read as
+abbrev foundFor : List Header → Schedule → ℕ → Sections → Sections
+foundFor [] x at f = f
+foundFor (h ∷ hs) x at f = foundFor hs x (ends h x at) (noted h (countFor h x) (begins h x at) f)
+
+abbrev AllHeld : List ℕ → List Header → Schedule → ℕ → Type 0
+AllHeld s [] x at = Unit {0}
+AllHeld s (h ∷ hs) x at = Held s h x (begins h x at) × AllHeld s hs x (ends h x at)
+
+through-read : (hs : List Header) (x : Schedule) (s : List ℕ) (k at : ℕ) (f : Sections) → allInRange (linesFor hs x) ≡ true
+    → Stands s at (textOf (linesFor hs x))
+    → (through hs s (Past k at) f ≡ ended s (Past 0 (at + length (textOf (linesFor hs x)))) (foundFor hs x at f)) × AllHeld s hs x at
+unfolding through linesFor textOf
+through-read [] x s k at f r st = (rw add-zero, tt)
+through-read (h ∷ hs) x s k at f r st =
+    let n = countFor h x in let line = HeaderLine h n in let xs = linesIn h x in let ys = linesFor hs x in
+    let p = begins h x at in let q = ends h x at in
+    let later = range-tail line (xs ++ ys) r in
+    let first = stands-line line (xs ++ ys) s at st in
+    let rest = stands-lines xs ys s p (first .1) in
+    let e = header-reads h n k s at (range-head line (xs ++ ys) r) (first .0) in
+    let l = lines-in h x s p (range-left xs ys later) (rest .0) in
+    let o = through-read hs x s 0 q (noted h n p f) (range-right xs ys later) (rest .1) in
+    let size : at + length (textOf (line ∷ (xs ++ ys))) ≡ q + length (textOf ys) =
+    omega (arith, length-line line (xs ++ ys), length-lines xs ys) in
+    (rw (e, l .0, size) (o .0), (l .1, o .1))
 
 concluded : (s : List ℕ) (p : ℕ) (f : Sections) (x : Schedule) → sections s ≡ ended s (Past 0 p) f → p ≡ length s → scheduleOf s f ≡ x
     → outcome s (sections s) ≡ schedule x
@@ -94,48 +138,12 @@ concluded s p f x e q h = rw (e, le-ltb p (length s) (omega arith)) (ap schedule
 -- where the lines of a schedule stand over a whole text, its sections hold that schedule
 sections-read : (x : Schedule) (s : List ℕ) → allInRange (linesOf x) ≡ true → Stands s 0 (textOf (linesOf x)) → length s ≡ length (textOf (linesOf x))
     → outcome s (sections s) ≡ schedule x
-unfolding linesOf scheduleOf
+unfolding sections linesOf scheduleOf
 sections-read x s r st size =
-    let ps = map WeightLine (x .plain) in let fs = map WeightLine (x .flag) in let ss = map StepLine (x .steps) in
-    let hf = HeaderLine Flag (length (x .flag)) in let hs = HeaderLine Steps (length (x .steps)) in
-    let l5 = hs ∷ ss in let l4 = hf ∷ (fs ++ l5) in
-    let h4 = HeaderLine Plain (length (x .plain)) in let l3 = h4 ∷ (ps ++ l4) in
-    let h3 = HeaderLine Slots (x .slots) in let l2 = h3 ∷ l3 in
-    let h2 = HeaderLine Threads (x .threads) in let l1 = h2 ∷ l2 in
-    let h1 = HeaderLine Shape 2 in
-    let r1 = range-tail h1 l1 r in let r2 = range-tail h2 l2 r1 in let r3 = range-tail h3 l3 r2 in let r4 = range-tail h4 (ps ++ l4) r3 in
-    let r5 = range-right ps l4 r4 in let r6 = range-tail hf (fs ++ l5) r5 in let r7 = range-right fs l5 r6 in let r8 = range-tail hs ss r7 in
-    let s1 = stands-line h1 l1 s 0 st in
-    let s2 = stands-line h2 l2 s _ (s1 .1) in
-    let s3 = stands-line h3 l3 s _ (s2 .1) in
-    let s4 = stands-line h4 (ps ++ l4) s _ (s3 .1) in
-    let s5 = stands-lines ps l4 s _ (s4 .1) in
-    let s6 = stands-line hf (fs ++ l5) s _ (s5 .1) in
-    let s7 = stands-lines fs l5 s _ (s6 .1) in
-    let s8 = stands-line hs ss s _ (s7 .1) in
-    let e1 = header-reads Shape 2 0 s 0 (range-head h1 l1 r) (s1 .0) in
-    let e2 = header-reads Threads (x .threads) 2 s _ (range-head h2 l2 r1) (s2 .0) in
-    let e3 = header-reads Slots (x .slots) (x .threads) s _ (range-head h3 l3 r2) (s3 .0) in
-    let e4 = header-reads Plain (length (x .plain)) (x .slots) s _ (range-head h4 (ps ++ l4) r3) (s4 .0) in
-    let e5 = held-read WeightDue WeightLine weightIn (λ w. refl) (λ w. refl) (x .plain) s _ (range-left ps l4 r4) (s5 .0) in
-    let e6 = header-reads Flag (length (x .flag)) 0 s _ (range-head hf (fs ++ l5) r5) (s6 .0) in
-    let e7 = held-read WeightDue WeightLine weightIn (λ w. refl) (λ w. refl) (x .flag) s _ (range-left fs l5 r6) (s7 .0) in
-    let e8 = header-reads Steps (length (x .steps)) 0 s _ (range-head hs ss r7) (s8 .0) in
-    let e9 = held-read StepDue StepLine stepIn (λ w. refl) (λ w. refl) (x .steps) s _ r8 (s8 .1) in
-    concluded s _ _ x (sections-of s _ _ _ _ _ _ _ _ _ e1 e2 e3 e4 (e5 .0) e6 (e7 .0) e8 (e9 .0))
-    (omega (
-      arith,
-      size,
-      length-line h1 l1,
-      length-line h2 l2,
-      length-line h3 l3,
-      length-line h4 (ps ++ l4),
-      length-lines ps l4,
-      length-line hf (fs ++ l5),
-      length-lines fs l5,
-      length-line hs ss,
-    ))
-    (λ i. record { threads = x .threads; slots = x .slots; plain = e5 .1 i; flag = e7 .1 i; steps = e9 .1 i })
+    let o = through-read (Shape ∷ headers) x s 0 0 nothingFound r st in
+    let held = o .1 .1 .1 .1 in
+    concluded s _ _ x (o .0) (omega (arith, size))
+    (λ i. record { threads = x .threads; slots = x .slots; plain = held .0 i; flag = held .1 .0 i; steps = held .1 .1 .0 i })
 
 -- the text of a schedule that has one is read as that schedule
 pub schedule-read-back : ScheduleReadBack

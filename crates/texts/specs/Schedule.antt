@@ -8,6 +8,7 @@ use Rattle.step.specs.declared.Step.{Step}
 use Rattle.step.specs.declared.Verb.the-variants.{Go}
 use Rattle.form.specs.Line.{lineInRange}
 use Rattle.form.specs.Text.{lineText}
+use Rattle.form.specs.declared.Header.{Header}
 use Rattle.form.specs.declared.Header.the-variants.{Shape, Threads, Slots, Plain, Flag, Steps}
 use Rattle.form.specs.declared.Due.{Due}
 use Rattle.form.specs.declared.Due.the-variants.{WeightDue, StepDue}
@@ -18,7 +19,7 @@ use Rattle.fault.specs.Refusal.{numberOf}
 use Rattle.fault.specs.declared.Refusal.{Refusal}
 use Rattle.line.specs.declared.LineRead.{LineRead}
 use Rattle.line.specs.declared.LineRead.the-variants.{Took, Fault}
-use Rattle.schedule.specs.Sections.{judged}
+use Rattle.schedule.specs.Sections.{headers, judged}
 use Rattle.schedule.specs.declared.Section.{Section}
 use Rattle.schedule.specs.declared.Sections.{Sections}
 use Rattle.schedule.specs.declared.Judged.{Judged}
@@ -32,18 +33,30 @@ pub record Schedule : Type 0 where
   pub flag : List ℕ
   pub steps : List Step
 
+-- the count that a header line of a schedule gives, and the lines under it
+abbrev pub countFor : Header → Schedule → ℕ
+countFor Shape x = 2
+countFor Threads x = x .threads
+countFor Slots x = x .slots
+countFor Plain x = length (x .plain)
+countFor Flag x = length (x .flag)
+countFor Steps x = length (x .steps)
+
+abbrev pub linesIn : Header → Schedule → List Line
+linesIn Shape x = []
+linesIn Threads x = []
+linesIn Slots x = []
+linesIn Plain x = map WeightLine (x .plain)
+linesIn Flag x = map WeightLine (x .flag)
+linesIn Steps x = map StepLine (x .steps)
+
 -- the lines of a schedule, in their order
+unfoldable pub linesFor : List Header → Schedule → List Line
+linesFor [] x = []
+linesFor (h ∷ hs) x = HeaderLine h (countFor h x) ∷ (linesIn h x ++ linesFor hs x)
+
 unfoldable pub linesOf : Schedule → List Line
-linesOf x =
-    HeaderLine Shape 2
-    ∷ HeaderLine Threads (x .threads)
-    ∷ HeaderLine Slots (x .slots)
-    ∷ HeaderLine Plain (length (x .plain))
-    ∷ (map WeightLine (x .plain)
-    ++ (HeaderLine Flag (length (x .flag))
-    ∷ (map WeightLine (x .flag)
-    ++ (HeaderLine Steps (length (x .steps))
-    ∷ map StepLine (x .steps)))))
+linesOf x = linesFor (Shape ∷ headers) x
 
 -- the text of lines: one after the other
 unfoldable pub textOf : List Line → List ℕ

@@ -5,9 +5,9 @@ ghost use Prim.Native.Nat.{_+_, _*_, _≤_};
 ghost use lib.ListN.{length};
 ghost use Rattle.image.specs.Image.{placeWords, inTurn, atomicWords, threadWords, heading, wordsOf};
 ghost use Rattle.number.specs.Buffer.{placed, Wrote};
-ghost use Rattle.standing.specs.Stands.{nameIn};
+ghost use Rattle.parts.specs.Parts.{nameIn};
 ghost use Rattle.state.specs.State.{atomicAt};
-use standing::Family;
+use parts::Family;
 use state::Machine;
 use state::Name;
 use state::Place;
@@ -89,7 +89,7 @@ fn write_atomics(buf: &mut [u32], p: usize, m: Machine, family: Family, n: usize
     let mut q = p;
     let mut i: usize = 0;
     while i < n {
-        q = write_cell(buf, q, m, standing::name_in(family, i));
+        q = write_cell(buf, q, m, parts::name_in(family, i));
         i += 1;
     }
     q

@@ -2,13 +2,9 @@
 use mathlib.Core.Path.{_≡_}
 use denote.Ref.{now}
 use Rattle.laws.proofs.Determined.{determined, OneResult}
-use Rattle.writer.proofs.word_width.Reads as word-width
 use Rattle.writer.proofs.next_or.Reads as next-or
 use Rattle.writer.proofs.put_word.Reads as put-word
 use Rattle.writer.proofs.put_line.Reads as put-line
-
-pub word-width-determined : OneResult word-width.Post
-word-width-determined κs a x y e f = determined
 
 pub next-or-determined : OneResult next-or.Post
 next-or-determined κs a x y e f = determined

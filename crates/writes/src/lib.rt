@@ -155,8 +155,8 @@ fn stand_still(judged: bool, before: bool, w: Write, k: usize) -> bool
     before
 }
 
-// One record more.
-fn look_at(q: Query, w: Write) -> Query
+// One record more, for every question.
+fn look_whole(q: Query, w: Write) -> Query
     ensures { λ r. ⌜ r ≡ lookedAt q w ⌝ }
 {
     let so_far = q.looked;
@@ -176,6 +176,35 @@ fn look_at(q: Query, w: Write) -> Query
         stamp: q.stamp,
         looked,
     }
+}
+
+// One record more. Where none is judged, most change nothing: those of other cells, and those at other stamps that are not newer.
+fn look_at(q: Query, w: Write) -> Query
+    ensures { λ r. ⌜ r ≡ lookedAt q w ⌝ }
+{
+    if q.judged {
+        return look_whole(q, w);
+    }
+    if w.cell != q.cell {
+        return q;
+    }
+    if w.stamp == q.stamp {
+        return look_whole(q, w);
+    }
+    let so_far = q.looked;
+    let last = so_far.newest;
+    if w.stamp <= last.stamp {
+        return q;
+    }
+    let newest = Newest {
+        stamp: w.stamp,
+        value: w.value,
+    };
+    let mut looked = so_far;
+    looked.newest = newest;
+    let mut next = q;
+    next.looked = looked;
+    next
 }
 
 // A search of the first n records.

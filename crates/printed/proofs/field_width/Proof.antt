@@ -6,27 +6,6 @@ use Rattle.printed.specs.Printed.{fieldText}
 use Rattle.printed.proofs.field_width.Statement.{statement}
 use Rattle.printed.proofs.field_width.Tie as tie
 
-enum-known-f : tie.Need-enum-known-f
-enum-known-f c = search needs
-
-word-width-requires : tie.Need-word-width-requires
-word-width-requires c κs = search needs
-
-enum-known-f-2 : tie.Need-enum-known-f-2
-enum-known-f-2 c = search needs
-
-number-width-requires : tie.Need-number-width-requires
-number-width-requires c κs = search needs
-
-enum-known-f-3 : tie.Need-enum-known-f-3
-enum-known-f-3 c = search needs
-
-cast-weight-width : tie.Need-cast-weight-width
-cast-weight-width c = search needs
-
-weight-width-requires : tie.Need-weight-width-requires
-weight-width-requires c κs = search needs
-
 returns : tie.Need-returns
 unfolding fieldText
 returns c = rw (c .before .before .f .given .1) (c .word-width .ensures, rw (c .word-width .ensures) (word-fits _))
@@ -43,13 +22,13 @@ pub field-width-spec : {M : Type 1} → statement M
 field-width-spec =
     tie.close
     (tie.spec
-    enum-known-f
-    word-width-requires
-    enum-known-f-2
-    number-width-requires
-    enum-known-f-3
-    cast-weight-width
-    weight-width-requires
+    (λ c. search needs)
+    (λ c κs. search needs)
+    (λ c. search needs)
+    (λ c κs. search needs)
+    (λ c. search needs)
+    (λ c. search needs)
+    (λ c κs. search needs)
     returns
     returns-2
     returns-3)

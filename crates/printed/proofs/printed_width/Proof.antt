@@ -4,17 +4,8 @@ use Rattle.printed.proofs.Laws.{length-ended, length-three, length-two}
 use Rattle.printed.proofs.printed_width.Statement.{statement}
 use Rattle.printed.proofs.printed_width.Tie as tie
 
-enum-known-line : tie.Need-enum-known-line
-enum-known-line c = search needs
-
-field-width-requires : tie.Need-field-width-requires
-field-width-requires c κs = search needs
-
 add-result : tie.Need-add-result
 add-result c = omega arith
-
-field-width-requires-2 : tie.Need-field-width-requires-2
-field-width-requires-2 c κs = search needs
 
 add-result-2 : tie.Need-add-result-2
 add-result-2 c = omega arith
@@ -22,23 +13,11 @@ add-result-2 c = omega arith
 add-result-3 : tie.Need-add-result-3
 add-result-3 c = omega arith
 
-enum-known-line-2 : tie.Need-enum-known-line-2
-enum-known-line-2 c = search needs
-
-field-width-requires-3 : tie.Need-field-width-requires-3
-field-width-requires-3 c κs = search needs
-
 add-result-4 : tie.Need-add-result-4
 add-result-4 c = omega arith
 
-field-width-requires-4 : tie.Need-field-width-requires-4
-field-width-requires-4 c κs = search needs
-
 add-result-5 : tie.Need-add-result-5
 add-result-5 c = omega arith
-
-field-width-requires-5 : tie.Need-field-width-requires-5
-field-width-requires-5 c κs = search needs
 
 add-result-6 : tie.Need-add-result-6
 add-result-6 c = omega arith
@@ -59,18 +38,18 @@ pub printed-width-spec : {M : Type 1} → statement M
 printed-width-spec =
     tie.close
     (tie.spec
-    enum-known-line
-    field-width-requires
+    (λ c. search needs)
+    (λ c κs. search needs)
     add-result
-    field-width-requires-2
+    (λ c κs. search needs)
     add-result-2
     add-result-3
-    enum-known-line-2
-    field-width-requires-3
+    (λ c. search needs)
+    (λ c κs. search needs)
     add-result-4
-    field-width-requires-4
+    (λ c κs. search needs)
     add-result-5
-    field-width-requires-5
+    (λ c κs. search needs)
     add-result-6
     add-result-7
     add-result-8

@@ -3,18 +3,6 @@ use mathlib.Core.Path.{refl}
 use Rattle.printed.proofs.put_next.Statement.{statement}
 use Rattle.printed.proofs.put_next.Tie as tie
 
-enum-known-upto : tie.Need-enum-known-upto
-enum-known-upto c = search needs
-
-put-printed-requires : tie.Need-put-printed-requires
-put-printed-requires c κs = search needs
-
-enum-told : tie.Need-enum-told
-enum-told c = search needs
-
-same-length : tie.Need-same-length
-same-length c = search needs
-
 returns : tie.Need-returns
 returns c = rw (c .before .before .before .before .before .upto .given .1) (c .before .before .put-printed .ensures)
 
@@ -24,4 +12,4 @@ returns-2 c = rw (c .enum-told .given .1) (refl, refl)
 pub put-next-spec : {M : Type 1} → statement M
 put-next-spec =
     tie.close
-    (tie.spec enum-known-upto put-printed-requires enum-told same-length returns returns-2)
+    (tie.spec (λ c. search needs) (λ c κs. search needs) (λ c. search needs) (λ c. search needs) returns returns-2)

@@ -12,23 +12,11 @@ use Rattle.printed.proofs.put_printed.Tie as tie
 roomy : (c : tie.Then1) → room (now (c .before .before .before .before .before .args .buf)) (c .before .before .before .before .before .args .at) (length (printedText (c .before .before .before .before .before .args .line))) ≡ true
 roomy c = rw (← c .before .before .printed-width .ensures) (sym (c .before .has-room .ensures) ∙ c .if1 .taken)
 
-printed-width-requires : tie.Need-printed-width-requires
-printed-width-requires c κs = search needs
-
-has-room-requires : tie.Need-has-room-requires
-has-room-requires c κs = search needs
-
 write-printed-requires : tie.Need-write-printed-requires
 write-printed-requires c κs = room-yes _ _ _ (roomy (c .before))
 
-same-length : tie.Need-same-length
-same-length c = search needs
-
 returns : tie.Need-returns
 returns c = put-done (roomy (c .before .before .before .before)) (c .before .before .write-printed .ensures)
-
-same-length-2 : tie.Need-same-length-2
-same-length-2 c = search needs
 
 returns-2 : tie.Need-returns-2
 returns-2 c = put-short _ _ _ (rw (← c .before .before .printed-width .ensures) (sym (c .before .has-room .ensures) ∙ c .if1 .left))
@@ -37,10 +25,10 @@ pub put-printed-spec : {M : Type 1} → statement M
 put-printed-spec =
     tie.close
     (tie.spec
-    printed-width-requires
-    has-room-requires
+    (λ c κs. search needs)
+    (λ c κs. search needs)
     write-printed-requires
-    same-length
+    (λ c. search needs)
     returns
-    same-length-2
+    (λ c. search needs)
     returns-2)

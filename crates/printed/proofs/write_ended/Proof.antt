@@ -7,21 +7,6 @@ use Rattle.writer.proofs.Laws.{wrote-of}
 use Rattle.printed.proofs.write_ended.Statement.{statement}
 use Rattle.printed.proofs.write_ended.Tie as tie
 
-put-field-requires : tie.Need-put-field-requires
-put-field-requires c κs = search needs
-
-next-or-requires : tie.Need-next-or-requires
-next-or-requires c κs = search needs
-
-put-byte-requires : tie.Need-put-byte-requires
-put-byte-requires c κs = search needs
-
-next-or-requires-2 : tie.Need-next-or-requires-2
-next-or-requires-2 c κs = search needs
-
-same-length : tie.Need-same-length
-same-length c = search needs
-
 returns : tie.Need-returns
 unfolding endedText
 returns c =
@@ -35,9 +20,9 @@ pub write-ended-spec : {M : Type 1} → statement M
 write-ended-spec =
     tie.close
     (tie.spec
-    put-field-requires
-    next-or-requires
-    put-byte-requires
-    next-or-requires-2
-    same-length
+    (λ c κs. search needs)
+    (λ c κs. search needs)
+    (λ c κs. search needs)
+    (λ c κs. search needs)
+    (λ c. search needs)
     returns)

@@ -6,9 +6,6 @@ use Rattle.printed.specs.Printed.{printedText}
 use Rattle.printed.proofs.write_printed.Statement.{statement}
 use Rattle.printed.proofs.write_printed.Tie as tie
 
-enum-known-line : tie.Need-enum-known-line
-enum-known-line c = search needs
-
 write-ended-requires : tie.Need-write-ended-requires
 write-ended-requires c κs = omega (arith, rw (c .before .before .line .given .1, length-two) at (c .before .before .before .before .before .pre))
 
@@ -18,9 +15,6 @@ write-ended-requires-2 c κs =
     let at-line = at-write-ended .before .before .before in
     let at-start = at-line .before .before .before in
     omega (arith, rw (at-line .line .given .1, length-two) at (at-start .pre), wrote-length (at-write-ended .write-ended .ensures))
-
-enum-known-line-2 : tie.Need-enum-known-line-2
-enum-known-line-2 c = search needs
 
 write-ended-requires-3 : tie.Need-write-ended-requires-3
 write-ended-requires-3 c κs = omega (arith, rw (c .before .before .line2 .given .1, length-three) at (c .before .before .before .before .before .pre))
@@ -40,18 +34,12 @@ write-ended-requires-5 c κs =
     let at-start = at-line2 .before .before .before in
     omega (arith, rw (at-line2 .line2 .given .1, length-three) at (at-start .pre), wrote-length (at-write-ended3 .write-ended3 .ensures), wrote-length (at-write-ended4 .write-ended4 .ensures))
 
-same-length : tie.Need-same-length
-same-length c = search needs
-
 returns : tie.Need-returns
 unfolding printedText
 returns c =
     let at-write-ended = c .before .before .before .before .before .before in
     let at-line = at-write-ended .before .before .before in
     rw (at-line .line .given .1) (wrote-then (at-write-ended .write-ended .ensures) (c .before .before .write-ended2 .ensures))
-
-same-length-2 : tie.Need-same-length-2
-same-length-2 c = search needs
 
 returns-2 : tie.Need-returns-2
 unfolding printedText
@@ -65,14 +53,14 @@ pub write-printed-spec : {M : Type 1} → statement M
 write-printed-spec =
     tie.close
     (tie.spec
-    enum-known-line
+    (λ c. search needs)
     write-ended-requires
     write-ended-requires-2
-    enum-known-line-2
+    (λ c. search needs)
     write-ended-requires-3
     write-ended-requires-4
     write-ended-requires-5
-    same-length
+    (λ c. search needs)
     returns
-    same-length-2
+    (λ c. search needs)
     returns-2)

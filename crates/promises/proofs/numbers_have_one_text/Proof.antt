@@ -1,4 +1,4 @@
-use Rattle.number.proofs.Promise.{count-read-back, weight-read-back, count-only-text, weight-only-text}
+use Rattle.digits.proofs.Promise.{count-read-back, weight-read-back, count-only-text, weight-only-text}
 use Rattle.promises.proofs.numbers_have_one_text.Statement.{statement}
 use Rattle.promises.proofs.numbers_have_one_text.Tie as tie
 

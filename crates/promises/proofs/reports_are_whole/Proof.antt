@@ -1,4 +1,4 @@
-use Rattle.run.proofs.Short.{report-short, report-whole}
+use Rattle.reported.proofs.Short.{report-short, report-whole}
 use Rattle.promises.proofs.reports_are_whole.Statement.{statement}
 use Rattle.promises.proofs.reports_are_whole.Tie as tie
 

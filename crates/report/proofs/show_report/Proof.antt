@@ -1,6 +1,6 @@
 use borrow.Author.Needs.{needs}
 use denote.Ref.{now}
-use Rattle.run.proofs.Short.{report-short}
+use Rattle.reported.proofs.Short.{report-short}
 use Rattle.report.proofs.Rooms.{report-inside}
 use Rattle.report.proofs.show_report.Statement.{statement}
 use Rattle.report.proofs.show_report.Tie as tie

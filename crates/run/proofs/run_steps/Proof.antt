@@ -31,9 +31,8 @@ use types.SemTy.{cells, Arr}
 use types.Tokens.{lft-new, lft-end}
 use sound.WpLaws.{FmC, fmOf, WpFn-mono}
 use denote.RattleType.{owns}
-use denote.Laws.{Is, Makes, Lawful}
+use denote.Laws.{Is}
 use denote.Memory.{mem, pointee}
-use denote.Array.{array-lawful}
 use denote.Builtin.{u8}
 use denote.Ref.{RefT, now}
 use denote.Slice.{MutSlice, ShrSlice, Room, sliceTy, sliceVal, slice-vals, shr-slice-tells, shr-slice-copy, mut-slice-tells}
@@ -43,22 +42,20 @@ use denote.Steps.{nothing, owned}
 use denote.Struct.Laws as LL
 use denote.Triple.Entry.{Vals, onEntry}
 use denote.Triple.Spec.{Meets, tripleOf}
-use denote.Triple.Table.{entered, cited}
+use denote.Triple.Table.{entered}
 use denote.Triple.Walked.{says, Stays, stay-none, stay-none-slice, stay-slice, walkOf, goes-none, goes-none-slice, goes-slice, Walks, ends-at}
 use denote.Triple.Walked.{walked, walk-meets}
 use denote.Exit.{yes}
-use Rattle.machine.proofs.Stepping.{Stepping, calls-step, machine-val}
-use Rattle.machine.proofs.step_by.Symbol as step-def
-use Rattle.machine.proofs.step_by.Symbol.{name as #step}
-use Rattle.machine.proofs.step_by.Met as step-thm
+use Rattle.machine.proofs.Stepping.{calls-step, machine-val}
 use Rattle.rules.proofs.Done as D
 use Rattle.rules.proofs.Done.Laws as D′
+use Rattle.step.proofs.Answer.Laws as R′
 use Rattle.schedule.proofs.Section as N
 use Rattle.schedule.proofs.Section.Laws as N′
 use Rattle.texts.specs.Schedule.{stepsAt}
 use Rattle.schedule.specs.declared.Section.{Section}
 use Rattle.asking.proofs.Asked.Laws as S′
-use Rattle.run.proofs.Ahead.Laws as A″
+use Rattle.turn.proofs.Ahead.Laws as A″
 use Rattle.state.proofs.Machine as Q
 use Rattle.state.proofs.Machine.Laws as Q′
 use Rattle.state.specs.declared.Machine.{Machine}
@@ -69,29 +66,17 @@ use Rattle.writes.proofs.Write as T
 use Rattle.writes.proofs.Write.Laws as T′
 use Rattle.writes.specs.Records.{noWrite}
 use Rattle.writes.specs.declared.Write.{Write}
-use Rattle.run.specs.Buffer.{Ends}
-use Rattle.run.specs.Going.{asks}
+use Rattle.run.specs.Ends.{Ends}
 use Rattle.run.specs.Run.{Run, ran}
-use Rattle.run.specs.declared.Ended.{Ended}
-use Rattle.run.proofs.Runs.{way-begins, way-counts, way-ends, way-goes}
-use Rattle.run.proofs.Turns.{Row, list-val, section-val, going-val, ended-val, State, is-m, is-asked, many, write-tells, room-w, room-b, Known}
-use Rattle.run.proofs.Turns.{NoWrites, Begin, GoOn, Finish, calls-no-writes, calls-begin, calls-go-on, calls-finish}
-use Rattle.run.proofs.Ended as F
-use Rattle.run.proofs.Ended.Laws as F′
-use Rattle.run.proofs.Going as G
-use Rattle.run.proofs.Going.Laws as G′
-use Rattle.run.proofs.begin.Symbol as begin-def
-use Rattle.run.proofs.begin.Symbol.{name as #begin}
-use Rattle.run.proofs.begin.Met as begin-thm
-use Rattle.run.proofs.finish.Symbol as finish-def
-use Rattle.run.proofs.finish.Symbol.{name as #finish}
-use Rattle.run.proofs.finish.Met as finish-thm
-use Rattle.run.proofs.go_on.Symbol as go-on-def
-use Rattle.run.proofs.go_on.Symbol.{name as #go-on}
-use Rattle.run.proofs.go_on.Met as go-on-thm
-use Rattle.run.proofs.no_writes.Symbol as no-writes-def
-use Rattle.run.proofs.no_writes.Symbol.{name as #no-writes}
-use Rattle.run.proofs.no_writes.Met as no-writes-thm
+use Rattle.turn.specs.Going.{asks}
+use Rattle.turn.specs.declared.Ended.{Ended}
+use Rattle.run.proofs.Runs.{way-begins, way-ends, way-goes}
+use Rattle.run.proofs.Turns.{Row, list-val, section-val, going-val, ended-val, State, is-asked, many, write-tells, room-w, room-b, Known}
+use Rattle.run.proofs.Turns.{given-machine, given-answer, write-makes, row-lawful, knows, calls-no-writes, calls-begin, calls-go-on, calls-finish}
+use Rattle.turn.proofs.Ended as F
+use Rattle.turn.proofs.Ended.Laws as F′
+use Rattle.turn.proofs.Going as G
+use Rattle.turn.proofs.Going.Laws as G′
 use Rattle.run.proofs.run_steps.Key.{name as #key}
 use Rattle.run.proofs.run_steps as f
 use Rattle.run.proofs.run_steps.Statement as stated
@@ -140,12 +125,6 @@ module _ {M : Type 1} (𝓤 : URA M) (H : Heap 𝓤) (A : Atoms 𝓤) (W : Given
 
   abbrev Out : List ℕ → Val → Fml
   Out bs k = MutSlice (named 1) κ′ u8 .own (y bs) (k ∷ [])
-
-  write-makes : Makes 𝓤 H A T.the-row (Is T.the-row)
-  write-makes = LL.makes T.the-type T′.the-plain 𝓤 H A
-
-  row-lawful : Lawful 𝓤 H A Row
-  row-lawful = array-lawful 𝓤 H A W T.the-row (LL.lawful T.the-type T′.the-laws 𝓤 H A W) 1024
 
   exits : (bs : List ℕ) (e : Ended) → length bs ≡ length os → Ends the-run os e bs → Is F.the-row e (ended-val e ∷ [])
       → ent 𝓤 (⋆ 𝓤 H A (‵ (flft κ q) ∷ ‵ (flft κ′ q′) ∷ ‵ Text ∷ ‵ (Out bs (u os)) ∷ [])) (Post (ended-val e))
@@ -196,10 +175,10 @@ module _ {M : Type 1} (𝓤 : URA M) (H : Heap 𝓤) (A : Atoms 𝓤) (W : Given
           ∷ ‵ (froom list l₁₁ 0) ∷ ‵ (fdies list l₁₁) ∷ ‵ (froom ref-arr l₁₀ 0) ∷ ‵ (fdies ref-arr l₁₀) ∷ ‵ (froom tyBool l₉ 0)
           ∷ ‵ (fdies tyBool l₉) ∷ ‵ (froom arr l₈ 0) ∷ ‵ (fdies arr l₈) ∷ ‵ (froom D′.mir l₇ 0) ∷ ‵ (fdies D′.mir l₇) ∷ []
 
-      -- the parameters and the result
-      abbrev Passed : List (Item 𝓤)
-      Passed =
-          ‵ (fat fullShare out l₄ 0 (u os)) ∷ ‵ (fdies out l₄) ∷ ‵ (fat fullShare Q′.mir l₃ 0 (machine-val m₀)) ∷ ‵ (fdies Q′.mir l₃)
+      -- the parameters, with the machine as it is, and the result
+      abbrev Passed : Machine → List (Item 𝓤)
+      Passed m =
+          ‵ (fat fullShare out l₄ 0 (u os)) ∷ ‵ (fdies out l₄) ∷ ‵ (fat fullShare Q′.mir l₃ 0 (machine-val m)) ∷ ‵ (fdies Q′.mir l₃)
           ∷ ‵ (fat fullShare N′.mir l₂ 0 (section-val sec)) ∷ ‵ (fdies N′.mir l₂) ∷ ‵ (fat fullShare text l₁ 0 v) ∷ ‵ (fdies text l₁)
           ∷ ‵ (froom F′.mir l₀ 0) ∷ ‵ (fdies F′.mir l₀) ∷ []
 
@@ -211,7 +190,7 @@ module _ {M : Type 1} (𝓤 : URA M) (H : Heap 𝓤) (A : Atoms 𝓤) (W : Given
       I s =
           ‵ (flft κ q) ∷ ‵ (flft κ′ q′) ∷ ‵ Text ∷ ‵ (Out (s .bs) (u (s .bs))) ∷ Fresh ++
           (‵ (fat fullShare G′.mir l₆ 0 (going-val (s .g))) ∷ ‵ (fdies G′.mir l₆) ∷ ‵ (fat fullShare arr l₅ 0 (list-val (s .ws)))
-          ∷ ‵ (fdies arr l₅) ∷ Passed)
+          ∷ ‵ (fdies arr l₅) ∷ Passed (s .m))
 
       -- after the loop
       abbrev Left : Kit.Post 𝓤 H
@@ -224,8 +203,8 @@ module _ {M : Type 1} (𝓤 : URA M) (H : Heap 𝓤) (A : Atoms 𝓤) (W : Given
       goes : (s : State t the-run os) → s .g .ahead .on ≡ true → Sq W (I s) (runs C Λ E mir.turn-1 (Turn s))
       unfolding afterTurn
       goes s e =
-          assigns ! (of-opd ! (load ! (from ! (fld ! {τ = A″.mir} {d = 4640} refl (fld ! {d = 0} refl (stop !))))
-          (look-in ! 18 (sub ! 0 {d = 0} refl (sub ! 1 {τ = A″.mir} {d = 4640} refl (whole !))))))
+          assigns ! (of-opd ! (load ! (from ! (fld ! {τ = A″.mir} {d = 0} refl (fld ! {d = 0} refl (stop !))))
+          (look-in ! 18 (sub ! 0 {d = 0} refl (sub ! 0 {τ = A″.mir} {d = 0} refl (whole !))))))
           (from ! (stop !)) (init ! 12 refl (tt, tt)) $
           rewrite ! 12 (λ (k : Bool). ‵ (fat fullShare tyBool l₉ 0 (vbool k))) e refl $ stays ! (load ! (from ! (stop !)) (look ! 12 refl)) $
           -- the list is lent as a slice for ν
@@ -235,7 +214,7 @@ module _ {M : Type 1} (𝓤 : URA M) (H : Heap 𝓤) (A : Atoms 𝓤) (W : Given
           (from ! (stop !)) (init ! 8 refl (tt, (tt, (record { fits = lit< tt }, tt)))) $
           rewrite ! 8 (λ (k : ℕ). ‵ (fat fullShare list l₁₁ 0 (sliceVal (l₅, 0) k))) (sym (many s)) refl $
           move ! (20 ∷ []) $ use1 W (‵ (cells (mem T.the-row) (s .ws) l₅ 0))
-          (to-cells 𝓤 H A W T.the-row tt 1024 write-vals write-tells write-makes l₅ (s .ws) (s .is-ws)) $
+          (to-cells 𝓤 H A W T.the-row tt 1024 write-vals write-tells (write-makes 𝓤 H A) l₅ (s .ws) (s .is-ws)) $
           lft-new ! tt (λ ν. move ! (1 ∷ []) $ use1 W (later (some (λ (δ : GName).
           ‵ (MutSlice (named 0) (ν ∷ []) T.the-row .own (lent-at l₅ 0 δ (s .ws)) (sliceVal (l₅, 0) (length (s .ws)) ∷ []))
           ⊛ ‵ (flent (ν ∷ []) (Held T.the-row (length (s .ws)) l₅ 0 δ)))))
@@ -243,11 +222,11 @@ module _ {M : Type 1} (𝓤 : URA M) (H : Heap 𝓤) (A : Atoms 𝓤) (W : Given
           move ! (2 ∷ 0 ∷ []) $
           -- [ν's token; the slice; the lender's part; the tokens; text; out; _13; …; that _5 dies; _4; …]
           -- the offsets are written out, since found by antt they are large terms
-          calls-step ! fm at-mem run (known .step) (ν ∷ []) fullShare l₅ 0 δ (s .ws) (s .g .machine) (s .g .ahead .asked) (is-m s) (is-asked s)
-          (and-then ! (load ! (from ! (fld ! {τ = Q′.mir} {d = 0} refl (stop !))) (look-in ! 20 (sub ! 0 {τ = Q′.mir} {d = 0} refl (whole !))))
+          calls-step ! fm at-mem run (known .step) (ν ∷ []) fullShare l₅ 0 δ (s .ws) (s .m) (s .g .ahead .asked) (s .is-m) (is-asked s)
+          (and-then ! (load ! (from ! (stop !)) (look ! 25 refl))
           (and-then ! (load ! (from ! (stop !)) (look ! 10 refl))
-          (and-then ! (load ! (from ! (fld ! {τ = A″.mir} {d = 4640} refl (fld ! {τ = S′.mir} {d = 4} refl (stop !))))
-          (look-in ! 20 (sub ! 1 {τ = S′.mir} {d = 4} refl (sub ! 1 {τ = A″.mir} {d = 4640} refl (whole !)))))
+          (and-then ! (load ! (from ! (fld ! {τ = A″.mir} {d = 0} refl (fld ! {τ = S′.mir} {d = 4} refl (stop !))))
+          (look-in ! 20 (sub ! 1 {τ = S′.mir} {d = 4} refl (sub ! 0 {τ = A″.mir} {d = 0} refl (whole !)))))
           (no-more !)))) (λ d us done-by l is-d.
           -- [ν's token; the last list; the lender's part; the tokens; text; out; _13 (7); …; _7 (19); …; that _5 dies; _4; …]
           land ! (from ! (stop !)) (init ! 19 refl (LL.lawful D.the-type D′.the-laws 𝓤 H A W .typed d _ is-d .0)) $
@@ -255,8 +234,10 @@ module _ {M : Type 1} (𝓤 : URA M) (H : Heap 𝓤) (A : Atoms 𝓤) (W : Given
           lft-end ! tt $ move ! (0 ∷ 2 ∷ 1 ∷ []) $ use3 W (later (‵ (Arr (mem T.the-row) (length (s .ws)) .lies us l₅ 0)))
           (slice-back 𝓤 H A W T.the-row (ν ∷ []) δ us (length (s .ws)) l₅ 0) $ await ! tt $ fsplit ! $ drop ! $
           use1 W (given (Is Row us (list-val us ∷ [])) (‵ (fat fullShare arr l₅ 0 (list-val us))))
-          (from-cells 𝓤 H A W T.the-row tt 1024 write-vals write-tells write-makes l₅ us (l ∙ many s)) $ learn ! (λ is-us.
+          (from-cells 𝓤 H A W T.the-row tt 1024 write-vals write-tells (write-makes 𝓤 H A) l₅ us (l ∙ many s)) $ learn ! (λ is-us.
           move ! (1 ∷ 2 ∷ 3 ∷ 4 ∷ 5 ∷ 6 ∷ 7 ∷ 8 ∷ 9 ∷ 10 ∷ 11 ∷ 12 ∷ 13 ∷ 14 ∷ 15 ∷ 16 ∷ 17 ∷ 18 ∷ 19 ∷ 20 ∷ []) $
+          assigns ! (of-opd ! (load ! (from ! (fld ! {τ = Q′.mir} {d = 8} refl (stop !))) (look-in ! 16 (sub ! 1 {τ = Q′.mir} {d = 8} refl (whole !)))))
+          (from ! (stop !)) (store ! 24 refl (LL.lawful Q.the-type Q′.the-laws 𝓤 H A W .typed (d .machine) _ (given-machine d is-d) .0)) $
           -- the buffer is lent again for ν′
           assigns ! (addr ! (from ! (fld ! refl (hop ! (look-in ! 22 (sub ! 0 refl (whole !))) (stop !))))) (from ! (stop !))
           (init ! 6 refl (tt, tt)) $
@@ -271,9 +252,10 @@ module _ {M : Type 1} (𝓤 : URA M) (H : Heap 𝓤) (A : Atoms 𝓤) (W : Given
           (lends-again u8 κ′ (ν′ ∷ []) q′ γ b o 𝓤 H A W (named 1) (named 1) (s .bs)) $ await ! tt $ Kit.pick ! (λ δ′. split ! $
           move ! (5 ∷ 2 ∷ 3 ∷ 0 ∷ []) $
           -- [text's token; ν′'s; text; the slice; the lender's part; text; _13; …]
-          calls-go-on ! fm at-mem run (known .go-on) κ q x (ν′ ∷ []) fullShare b o δ′ (s .bs) (s .g) d (way-counts (s .way) e) (s .is-g) is-d
+          calls-go-on ! fm at-mem run (known .go-on) κ q x (ν′ ∷ []) fullShare b o δ′ (s .bs) (s .g) (d .answer) (s .is-g) (given-answer d is-d)
           (and-then ! (load ! (from ! (stop !)) (look ! 27 refl)) (and-then ! (load ! (from ! (stop !)) (look ! 3 refl))
-          (and-then ! (load ! (from ! (stop !)) (look ! 17 refl)) (and-then ! (load ! (from ! (stop !)) (look ! 15 refl)) (no-more !)))))
+          (and-then ! (load ! (from ! (stop !)) (look ! 17 refl))
+          (and-then ! (load ! (from ! (fld ! {τ = R′.mir} {d = 0} refl (stop !))) (look-in ! 15 (sub ! 0 {τ = R′.mir} {d = 0} refl (whole !)))) (no-more !)))))
           (λ r bs on l′ is-r.
           -- [text's token; ν′'s; the last bytes; the lender's part; text; _13; …]: ν′ is ended, and the buffer is back
           move ! (1 ∷ []) $ lft-end ! tt $ move ! (0 ∷ 3 ∷ 2 ∷ []) $ use3 W (later (‵ (Out bs (u (s .bs))) ⊛ ‵ (flft κ′ q′)))
@@ -282,21 +264,21 @@ module _ {M : Type 1} (𝓤 : URA M) (H : Heap 𝓤) (A : Atoms 𝓤) (W : Given
           land-last ! (from ! (stop !)) (store ! 18 refl (LL.lawful G.the-type G′.the-laws 𝓤 H A W .typed r _ is-r .0)) $
           forget ! 4 refl $ forget ! 6 refl $ forget ! 8 refl $ forget ! 10 refl $ forget ! 12 refl $ forget ! 16 refl $
           let next = way-goes (s .way) e done-by on in
-          again ! ≺ I s (record { g = r; ws = us; bs = bs; is-g = is-r; is-ws = is-us; as-long = l′ ∙ s .as-long; way = next .0 })
+          again ! ≺ I s (record { m = d .machine; g = r; ws = us; bs = bs; is-m = given-machine d is-d; is-g = is-r; is-ws = is-us; as-long = l′ ∙ s .as-long; way = next .0 })
           (next .1))))))))
 
       -- no step is ahead
       ends : (s : State t the-run os) → s .g .ahead .on ≡ false → Sq W (I s) (runs C Λ E mir.turn-1 (Turn s))
       unfolding afterTurn
       ends s e =
-          assigns ! (of-opd ! (load ! (from ! (fld ! refl (fld ! refl (stop !)))) (look-in ! 18 (sub ! 0 refl (sub ! 1 refl (whole !))))))
+          assigns ! (of-opd ! (load ! (from ! (fld ! refl (fld ! refl (stop !)))) (look-in ! 18 (sub ! 0 refl (sub ! 0 refl (whole !))))))
           (from ! (stop !)) (init ! 12 refl (tt, tt)) $
           rewrite ! 12 (λ (k : Bool). ‵ (fat fullShare tyBool l₉ 0 (vbool k))) e refl $
           leaves-loop ! (load ! (from ! (stop !)) (look ! 12 refl)) $ exec ! C Λ E mir.t-5 (atRet E Post) $
           assigns ! (of-opd ! (load ! (from ! (stop !)) (look ! 20 refl))) (from ! (stop !))
-          (init ! 14 refl (row-lawful .typed (s .ws) _ (s .is-ws) .0)) $
-          calls-finish ! fm at-mem run (known .finish) (s .g) (s .ws) (s .is-g) (s .is-ws)
-          (and-then ! (load ! (from ! (stop !)) (look ! 19 refl)) (and-then ! (load ! (from ! (stop !)) (look ! 15 refl)) (no-more !)))
+          (init ! 14 refl (row-lawful 𝓤 H A W .typed (s .ws) _ (s .is-ws) .0)) $
+          calls-finish ! fm at-mem run (known .finish) (s .m) (s .g) (s .ws) (s .is-m) (s .is-g) (s .is-ws)
+          (and-then ! (load ! (from ! (stop !)) (look ! 25 refl)) (and-then ! (load ! (from ! (stop !)) (look ! 19 refl)) (and-then ! (load ! (from ! (stop !)) (look ! 15 refl)) (no-more !))))
           (λ r ended is-r.
           land ! (from ! (stop !)) (init ! 30 refl (LL.lawful F.the-type F′.the-laws 𝓤 H A W .typed r _ is-r .0)) $
           returns ! (look ! 30 refl) $ forget ! 12 refl $ forget ! 14 refl $ forget ! 18 refl $ forget ! 20 refl $ forget ! 22 refl $
@@ -320,7 +302,7 @@ module _ {M : Type 1} (𝓤 : URA M) (H : Heap 𝓤) (A : Atoms 𝓤) (W : Given
 
       abbrev Begun : List (Item 𝓤)
       Begun =
-          Fresh ++ (‵ (froom G′.mir l₆ 0) ∷ ‵ (fdies G′.mir l₆) ∷ ‵ (froom arr l₅ 0) ∷ ‵ (fdies arr l₅) ∷ Passed ++
+          Fresh ++ (‵ (froom G′.mir l₆ 0) ∷ ‵ (fdies G′.mir l₆) ∷ ‵ (froom arr l₅ 0) ∷ ‵ (fdies arr l₅) ∷ Passed m₀ ++
           ((‵ (flft κ q) ⊛ ‵ (flft κ′ q′) ⊛ ‵ ftrue)
           ∷ ‵ (owns (ShrSlice (named 0) κ u8 ∷ N.the-row ∷ Q.the-row ∷ MutSlice (named 1) κ′ u8 ∷ []) a at) ∷ []))
 
@@ -330,19 +312,18 @@ module _ {M : Type 1} (𝓤 : URA M) (H : Heap 𝓤) (A : Atoms 𝓤) (W : Given
           move ! (30 ∷ []) $ split ! $ move ! (1 ∷ []) $ split ! $ move ! (1 ∷ []) $ drop ! $ move ! (1 ∷ 0 ∷ 3 ∷ 2 ∷ []) $
           -- [the tokens; what text owns; what out owns; _13 (4); …; _k (30 - 2 k); …]
           calls-no-writes ! fm at-mem run (known .no-writes) (no-more !) (λ ws none is-ws.
-          land ! (from ! (stop !)) (init ! 14 refl (row-lawful .typed ws _ is-ws .0)) $
-          assigns ! (of-opd ! (load ! (from ! (stop !)) (look ! 14 refl))) (from ! (stop !)) (init ! 20 refl (row-lawful .typed ws _ is-ws .0)) $
+          land ! (from ! (stop !)) (init ! 14 refl (row-lawful 𝓤 H A W .typed ws _ is-ws .0)) $
+          assigns ! (of-opd ! (load ! (from ! (stop !)) (look ! 14 refl))) (from ! (stop !)) (init ! 20 refl (row-lawful 𝓤 H A W .typed ws _ is-ws .0)) $
           forget ! 14 refl $ move ! (2 ∷ []) $
           use1 W (‵ Text ⊛ ‵ Text) (shr-slice-copy 𝓤 H A W (named 0) κ u8 .twice x (v ∷ [])) $ split ! $ move ! (2 ∷ 0 ∷ []) $
           -- [text's token; text; text; out's token; out; _13; …]
-          calls-begin ! fm at-mem run (known .begin) κ q x sec m₀ is-sec is-m₀
-          (and-then ! (load ! (from ! (stop !)) (look ! 28 refl)) (and-then ! (load ! (from ! (stop !)) (look ! 26 refl))
-          (and-then ! (load ! (from ! (stop !)) (look ! 24 refl)) (no-more !)))) (λ g begins is-g.
+          calls-begin ! fm at-mem run (known .begin) κ q x sec is-sec
+          (and-then ! (load ! (from ! (stop !)) (look ! 28 refl)) (and-then ! (load ! (from ! (stop !)) (look ! 26 refl)) (no-more !)))
+          (λ g begins is-g.
           land ! (from ! (stop !)) (init ! 18 refl (LL.lawful G.the-type G′.the-laws 𝓤 H A W .typed g _ is-g .0)) $
           move ! (0 ∷ 2 ∷ 1 ∷ []) $ first ! $
-          let count = LL.owed N.the-type N′.the-laws sec _ is-sec .0 .1 in
-          let way = way-begins begins count (ap (λ (k : List Write). ran m₀ k (stepsAt t sec)) (sym none)) in
-          looping (record { g = g; ws = ws; bs = os; is-g = is-g; is-ws = is-ws; as-long = refl; way = way })))
+          let way = way-begins sec begins (ap (λ (k : List Write). ran m₀ k (stepsAt t sec)) (sym none)) in
+          looping (record { m = m₀; g = g; ws = ws; bs = os; is-m = is-m₀; is-g = is-g; is-ws = is-ws; as-long = refl; way = way })))
 
     walk : ent 𝓤 (onEntry 𝓤 H A f.signature (κ, (κ′, tt)) (q, (q′, tt)) a at)
         (WpFn 𝓤 H (𝓣 .C) (𝓣 .Λ) code.function (v ∷ section-val sec ∷ machine-val m₀ ∷ u os ∷ []) Post)
@@ -389,16 +370,4 @@ run-steps-spec 𝓤 H 𝓜 𝓖 𝓡 =
     entered 𝓤 H (tripleOf 𝓤 H (𝓖 .A) f.signature (f.spec 𝓤 H (𝓖 .A) (𝓜 .mem) (𝓡 .run)))
     (tables 𝓤 H 𝓜 𝓡 code.env .C) (tables 𝓤 H 𝓜 𝓡 code.env .Λ) #key code.function (code.unfolded 𝓤 H 𝓜 𝓡)
     (run-steps-meets 𝓤 H (𝓖 .A) (givenOf 𝓤 H 𝓜 𝓖) (𝓜 .mem) (𝓡 .run) (tablesOf 𝓤 H 𝓜 (tables 𝓤 H 𝓜 𝓡 code.env))
-    (record {
-      no-writes =
-          cited 𝓤 H (NoWrites 𝓤 H (𝓖 .A) (𝓜 .mem) (𝓡 .run)) 𝓜 𝓡 code.env #no-writes no-writes-def.routine code.calls-run·no-writes
-          (no-writes-thm.met 𝓤 H 𝓜 𝓖 𝓡);
-      begin = cited 𝓤 H (Begin 𝓤 H (𝓖 .A) (𝓜 .mem) (𝓡 .run)) 𝓜 𝓡 code.env #begin begin-def.routine code.calls-run·begin (begin-thm.met 𝓤 H 𝓜 𝓖 𝓡);
-      step =
-          cited 𝓤 H (Stepping 𝓤 H (𝓖 .A) (𝓜 .mem) (𝓡 .run)) 𝓜 𝓡 code.env #step step-def.routine code.calls-machine·step-by
-          (step-thm.met 𝓤 H 𝓜 𝓖 𝓡);
-      go-on = cited 𝓤 H (GoOn 𝓤 H (𝓖 .A) (𝓜 .mem) (𝓡 .run)) 𝓜 𝓡 code.env #go-on go-on-def.routine code.calls-run·go-on (go-on-thm.met 𝓤 H 𝓜 𝓖 𝓡);
-      finish =
-          cited 𝓤 H (Finish 𝓤 H (𝓖 .A) (𝓜 .mem) (𝓡 .run)) 𝓜 𝓡 code.env #finish finish-def.routine code.calls-run·finish
-          (finish-thm.met 𝓤 H 𝓜 𝓖 𝓡);
-    }))
+    (knows 𝓤 H 𝓜 𝓖 𝓡 code.env code.calls-turn·no-writes code.calls-turn·begin code.calls-machine·step-by code.calls-turn·go-on code.calls-turn·finish))

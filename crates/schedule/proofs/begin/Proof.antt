@@ -4,9 +4,6 @@ use Rattle.schedule.specs.Judging.{begun}
 use Rattle.schedule.proofs.begin.Statement.{statement}
 use Rattle.schedule.proofs.begin.Tie as tie
 
-stop-requires : tie.Need-stop-requires
-stop-requires c κs = search needs
-
 returns : tie.Need-returns
 unfolding begun
 returns c = simp (lt-ltb _ _ (c .before .if1 .taken)) (c .stop .ensures)
@@ -16,4 +13,4 @@ unfolding begun
 returns-2 c = simp (le-ltb _ _ (c .if1 .left))
 
 pub begin-spec : {M : Type 1} → statement M
-begin-spec = tie.close (tie.spec stop-requires returns returns-2)
+begin-spec = tie.close (tie.spec (λ c κs. search needs) returns returns-2)

@@ -3,12 +3,6 @@ use borrow.Author.Needs.{needs}
 use Rattle.schedule.proofs.end_text.Statement.{statement}
 use Rattle.schedule.proofs.end_text.Tie as tie
 
-enum-known-last : tie.Need-enum-known-last
-enum-known-last c = search needs
-
-enum-known-last-2 : tie.Need-enum-known-last-2
-enum-known-last-2 c = search needs
-
 returns : tie.Need-returns
 returns c = rw (c .before .before .last .given .1) (simp (lt-ltb _ _ (c .if1 .taken)))
 
@@ -19,4 +13,4 @@ returns-3 : tie.Need-returns-3
 returns-3 c = rw (c .before .last2 .given .1)
 
 pub end-text-spec : {M : Type 1} → statement M
-end-text-spec = tie.close (tie.spec enum-known-last enum-known-last-2 returns returns-2 returns-3)
+end-text-spec = tie.close (tie.spec (λ c. search needs) (λ c. search needs) returns returns-2 returns-3)

@@ -4,27 +4,6 @@ use borrow.Author.Needs.{needs}
 use Rattle.schedule.proofs.pass_line.Statement.{statement}
 use Rattle.schedule.proofs.pass_line.Tie as tie
 
-enum-known-l : tie.Need-enum-known-l
-enum-known-l c = search needs
-
-count-in-requires : tie.Need-count-in-requires
-count-in-requires c κs = search needs
-
-open-section-requires : tie.Need-open-section-requires
-open-section-requires c κs = search needs
-
-sub-settle : tie.Need-sub-settle
-sub-settle c = search needs
-
-settle-requires : tie.Need-settle-requires
-settle-requires c κs = search needs
-
-enum-known-l-2 : tie.Need-enum-known-l-2
-enum-known-l-2 c = search needs
-
-stop-requires : tie.Need-stop-requires
-stop-requires c κs = search needs
-
 returns : tie.Need-returns
 returns c = rw (c .before .before .before .before .before .l .given .1) (simp (eq-eqb _ _ (c .before .before .if1 .taken))
     (c .open-section .ensures ∙ rw (c .before .count-in .ensures)))
@@ -40,13 +19,13 @@ pub pass-line-spec : {M : Type 1} → statement M
 pass-line-spec =
     tie.close
     (tie.spec
-    enum-known-l
-    count-in-requires
-    open-section-requires
-    sub-settle
-    settle-requires
-    enum-known-l-2
-    stop-requires
+    (λ c. search needs)
+    (λ c κs. search needs)
+    (λ c κs. search needs)
+    (λ c. search needs)
+    (λ c κs. search needs)
+    (λ c. search needs)
+    (λ c κs. search needs)
     returns
     returns-2
     returns-3)

@@ -1,7 +1,7 @@
 use borrow.Author.Needs.{needs}
-use Rattle.standing.specs.Stands.{inShape}
 use Rattle.standing.proofs.in_shape.Statement.{statement}
 use Rattle.standing.proofs.in_shape.Tie as tie
+use Rattle.standing.specs.Stands.{inShape}
 
 returns : tie.Need-returns
 unfolding inShape

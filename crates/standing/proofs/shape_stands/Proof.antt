@@ -1,7 +1,7 @@
 use borrow.Author.Needs.{needs}
-use Rattle.standing.specs.Stands.{shapeStands}
 use Rattle.standing.proofs.shape_stands.Statement.{statement}
 use Rattle.standing.proofs.shape_stands.Tie as tie
+use Rattle.standing.specs.Stands.{shapeStands}
 
 returns : tie.Need-returns
 unfolding shapeStands

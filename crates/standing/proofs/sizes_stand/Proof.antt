@@ -1,7 +1,7 @@
 use borrow.Author.Needs.{needs}
-use Rattle.standing.specs.Stands.{sizesStand}
 use Rattle.standing.proofs.sizes_stand.Statement.{statement}
 use Rattle.standing.proofs.sizes_stand.Tie as tie
+use Rattle.standing.specs.Stands.{sizesStand}
 
 returns : tie.Need-returns
 unfolding sizesStand

@@ -41,7 +41,8 @@ use denote.Triple.Table.{entered, cited}
 use denote.Triple.Walked.{says, Stays, stay-none, stay-none-slice, walkOf, goes-none, goes-none-slice, Walks, ends-at, walked, walk-meets}
 use denote.Exit.{yes}
 use Rattle.laws.specs.Tests.{_and_}
-use Rattle.standing.specs.Stands.{sizesStand, partsStand, stands}
+use Rattle.parts.specs.Parts.{partsStand}
+use Rattle.standing.specs.Stands.{sizesStand, stands}
 use Rattle.state.specs.State.{cellsOf}
 use Rattle.state.specs.declared.Machine.{Machine}
 use Rattle.writes.specs.Searched.{soughtOf, searched}

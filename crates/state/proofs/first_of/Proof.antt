@@ -6,7 +6,7 @@ use Rattle.state.proofs.first_of.Tie as tie
 
 returns : tie.Need-returns
 unfolding firstOf
-returns c = rw (lt-ltb _ _ (c .before .if1 .taken)) (c .given-at .ensures)
+returns c = rw (lt-ltb _ _ (c .before .before .if1 .taken)) (c .given-in .ensures)
 
 returns-2 : tie.Need-returns-2
 unfolding firstOf

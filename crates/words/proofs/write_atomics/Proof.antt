@@ -6,7 +6,7 @@ use lib.ListN.{length}
 use Rattle.number.specs.Buffer.{Wrote}
 use Rattle.words.proofs.Words.{turn, no-turn}
 use Rattle.image.specs.Image.{inTurn, atomicWords}
-use Rattle.standing.specs.Stands.{nameIn}
+use Rattle.parts.specs.Parts.{nameIn}
 use Rattle.state.specs.State.{atomicAt}
 use Rattle.state.specs.declared.Name.{Name}
 use Rattle.words.proofs.write_atomics.Statement.{statement}

@@ -13,18 +13,6 @@ use Rattle.writer.specs.declared.LineWritten.the-variants.{Upto}
 use Rattle.writer.proofs.put_line.Statement.{statement}
 use Rattle.writer.proofs.put_line.Tie as tie
 
-due-of-requires : tie.Need-due-of-requires
-due-of-requires c κs = search needs
-
-lead-kind-requires : tie.Need-lead-kind-requires
-lead-kind-requires c κs = search needs
-
-fields-of-requires : tie.Need-fields-of-requires
-fields-of-requires c κs = search needs
-
-fields-in-range-requires : tie.Need-fields-in-range-requires
-fields-in-range-requires c κs = search needs
-
 -- the tests and the text of the line's numbers are those of the line
 ranged : (c : tie.After-fields-in-range) → c .fields-in-range .result ≡ lineInRange (c .before .before .before .before .before .args .line)
 unfolding lineInRange
@@ -47,15 +35,6 @@ returns : tie.Need-returns
 unfolding lineWritten linePlaced
 returns c = let e = sym (ranged (c .before)) ∙ not-true _ (c .if1 .taken) in (simp e, simp e)
 
-fields-width-requires : tie.Need-fields-width-requires
-fields-width-requires c κs = search needs
-
-has-room-requires : tie.Need-has-room-requires
-has-room-requires c κs = search needs
-
-same-length : tie.Need-same-length
-same-length c = search needs
-
 returns-2 : tie.Need-returns-2
 unfolding lineWritten linePlaced placed
 returns-2 c =
@@ -65,9 +44,6 @@ returns-2 c =
 write-fields-requires : tie.Need-write-fields-requires
 write-fields-requires c κs =
     let h = c .before .before in rw (text (h .before .before .before .before .before)) (room-yes _ _ _ (sym (roomy h) ∙ not-false _ (c .before .if2 .left)))
-
-same-length-2 : tie.Need-same-length-2
-same-length-2 c = search needs
 
 returns-3 : tie.Need-returns-3
 unfolding lineWritten linePlaced placed
@@ -80,15 +56,15 @@ pub put-line-spec : {M : Type 1} → statement M
 put-line-spec =
     tie.close
     (tie.spec
-    due-of-requires
-    lead-kind-requires
-    fields-of-requires
-    fields-in-range-requires
+    (λ c κs. search needs)
+    (λ c κs. search needs)
+    (λ c κs. search needs)
+    (λ c κs. search needs)
     returns
-    fields-width-requires
-    has-room-requires
-    same-length
+    (λ c κs. search needs)
+    (λ c κs. search needs)
+    (λ c. search needs)
     returns-2
     write-fields-requires
-    same-length-2
+    (λ c. search needs)
     returns-3)

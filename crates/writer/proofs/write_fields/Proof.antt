@@ -14,13 +14,10 @@ write-form-requires : tie.Need-write-form-requires
 unfolding fieldsText
 write-form-requires c κs = omega (arith, rw length-append at (c .before .before .before .before .before .before .pre))
 
-same-length : tie.Need-same-length
-same-length c = search needs
-
 returns : tie.Need-returns
 unfolding fieldsText
 returns c = wrote-then (c .before .before .before .before .before .before .write-lead .ensures) (c .before .before .write-form .ensures)
 
 pub write-fields-spec : {M : Type 1} → statement M
 write-fields-spec =
-    tie.close (tie.spec write-lead-requires write-form-requires same-length returns)
+    tie.close (tie.spec write-lead-requires write-form-requires (λ c. search needs) returns)

@@ -5,15 +5,9 @@ use lib.ListN.{length}
 use denote.Ref.{now}
 use Rattle.form.specs.Text.{operandText, wordText, formText}
 use Rattle.number.proofs.Stores.{wrote-then}
-use Rattle.writer.proofs.Laws.{length-form}
+use Rattle.measure.proofs.Widths.{length-form}
 use Rattle.writer.proofs.write_form.Statement.{statement}
 use Rattle.writer.proofs.write_form.Tie as tie
-
-form-at-requires : tie.Need-form-at-requires
-form-at-requires c κs = search needs
-
-slice-aggregate-write-word : tie.Need-slice-aggregate-write-word
-slice-aggregate-write-word c = search needs
 
 -- the room, part by part of the row that was looked up
 roomy : (c : tie.After-form-at) → let s = c .before .before .args in let f = c .form-at .result in
@@ -40,9 +34,6 @@ write-byte-requires c κs =
     let z = c .before .before .before in let y = z .before .before .before .before in let x = y .before .before .before .before in let w = x .before .before .before .before in
     omega (arith, roomy (w .before .before .before .before), w .write-word, x .write-operand, y .write-operand2, z .write-operand3)
 
-same-length : tie.Need-same-length
-same-length c = search needs
-
 returns : tie.Need-returns
 unfolding formText
 returns c =
@@ -56,12 +47,12 @@ pub write-form-spec : {M : Type 1} → statement M
 write-form-spec =
     tie.close
     (tie.spec
-    form-at-requires
-    slice-aggregate-write-word
+    (λ c κs. search needs)
+    (λ c. search needs)
     write-word-requires
     write-operand-requires
     write-operand-requires-2
     write-operand-requires-3
     write-byte-requires
-    same-length
+    (λ c. search needs)
     returns)

@@ -6,12 +6,6 @@ use Rattle.writer.proofs.Laws.{wrote-none}
 use Rattle.writer.proofs.write_operand.Statement.{statement}
 use Rattle.writer.proofs.write_operand.Tie as tie
 
-enum-told : tie.Need-enum-told
-enum-told c = search needs
-
-enum-told-2 : tie.Need-enum-told-2
-enum-told-2 c = search needs
-
 write-byte-requires : tie.Need-write-byte-requires
 unfolding operandText
 write-byte-requires c κs = omega (arith, rw (c .before .enum-told2 .given .1) at (c .before .before .before .before .pre))
@@ -20,9 +14,6 @@ write-number-requires : tie.Need-write-number-requires
 unfolding operandText
 write-number-requires c κs =
     let e = c .before .before .before .before .before in omega (arith, rw (e .enum-told2 .given .1) at (e .before .before .before .pre))
-
-enum-told-3 : tie.Need-enum-told-3
-enum-told-3 c = search needs
 
 write-byte-requires-2 : tie.Need-write-byte-requires-2
 unfolding operandText
@@ -37,17 +28,11 @@ returns : tie.Need-returns
 unfolding operandText
 returns c = rw (c .enum-told .given .1) (wrote-none _ _)
 
-same-length : tie.Need-same-length
-same-length c = search needs
-
 returns-2 : tie.Need-returns-2
 unfolding operandText
 returns-2 c =
     let w = c .before .before .before .before .before .before in
     rw (w .before .before .enum-told2 .given .1) (wrote-then (w .write-byte .ensures) (c .before .before .write-number .ensures))
-
-same-length-2 : tie.Need-same-length-2
-same-length-2 c = search needs
 
 returns-3 : tie.Need-returns-3
 unfolding operandText
@@ -59,15 +44,15 @@ pub write-operand-spec : {M : Type 1} → statement M
 write-operand-spec =
     tie.close
     (tie.spec
-    enum-told
-    enum-told-2
+    (λ c. search needs)
+    (λ c. search needs)
     write-byte-requires
     write-number-requires
-    enum-told-3
+    (λ c. search needs)
     write-byte-requires-2
     write-weight-requires
     returns
-    same-length
+    (λ c. search needs)
     returns-2
-    same-length-2
+    (λ c. search needs)
     returns-3)

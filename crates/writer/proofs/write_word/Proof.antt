@@ -8,7 +8,7 @@ use lib.ListN.{length, getD, drop, length-set}
 use lib.Seq.{sets}
 use denote.Ref.{now}
 use Rattle.form.specs.Text.{wordText}
-use Rattle.writer.proofs.Laws.{text-end, text-zero, text-more}
+use Rattle.measure.proofs.Widths.{text-end, text-zero, text-more}
 use Rattle.writer.proofs.write_word.Statement.{statement}
 use Rattle.writer.proofs.write_word.Tie as tie
 

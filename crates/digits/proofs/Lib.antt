@@ -1,0 +1,5 @@
+pub mod Digits
+pub mod ReadBack
+pub mod OnlyTexts
+pub mod Promise
+pub mod Determined
