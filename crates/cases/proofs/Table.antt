@@ -1,7 +1,8 @@
 -- The table holds, by computation. Assumes nothing.
+use mathlib.Core.Option.{bind}
 use mathlib.Core.Path.{refl}
 use Rattle.atomic.specs.Atomic.{met, told, readAtomic, writeAtomic, swappedOf}
-use Rattle.cases.specs.Question.{held, endOf, reply}
+use Rattle.cases.specs.Question.{held, answersIn, endAt, reply}
 use Rattle.cases.specs.Table.{table, StarredHold}
 use Rattle.form.specs.Line.{verbOf}
 use Rattle.form.specs.Range.{inRange, limited}
@@ -16,6 +17,8 @@ use Rattle.places.specs.Places.{placeStands}
 use Rattle.refusal.specs.Refusal.{refusalBy}
 use Rattle.rules.specs.Access.{slotCell, foundBy, accessed}
 use Rattle.rules.specs.Calls.{goesOn, looks, swaps, closes, resumed, acted}
+use Rattle.rules.specs.Log.{entryOf, next, through as stepped, start, ins, outs, with, seen}
+use Rattle.rules.specs.Queue.{plain}
 use Rattle.rules.specs.Step.{takenBy, refusalOf, decidedOf, stepOf, contentOf}
 use Rattle.digits.specs.Reading.{isDigit, digits, number, point, weight}
 use Rattle.number.specs.Text.{decimal, numberText, lastDigits, weightText}
@@ -34,5 +37,5 @@ use Rattle.writes.specs.History.{shownBy, found, newer, newest, recordStands, r
 use Rattle.writes.specs.Records.{recorded}
 
 pub starred-hold : StarredHold
-unfolding table reply held endOf reportText reported runLines runOf queueLines rankLines refusedLines ran spelled fieldText endedText printedText answerLine linesText decimal numberText lastDigits weightText linesFrom scheduleOf reads linesPast through sections judged verbOf inRange limited forms formAt word spaced upToLF lineAt formRow findForm dueRow readLine isDigit digits number point weight openedOf fresh unmoved givenRoom statusesRoom filled weightsStand stepOf decidedOf refusalOf refusalBy takenBy acted resumed looks swaps closes goesOn readAtomic writeAtomic swappedOf met told joined joinTo stampOf withStamp row withRow place withPlace atomicAt withAtomic firstOf cellsOf slotCell slotOf nextRank freeStatus fullStatus lapped foundBy accessed recorded found shownBy newest newer among stands sizesStand shapeStands inShape partsStand threadsStand threadStands placeStands firstsStand cellsStand atomicsStand atomicStands viewStands recordsStand recordStands allBelow _and_ _or_ contentOf
+unfolding table reply held answersIn endAt entryOf next stepped start with seen ins outs plain bind reportText reported runLines runOf queueLines rankLines refusedLines ran spelled fieldText endedText printedText answerLine linesText decimal numberText lastDigits weightText linesFrom scheduleOf reads linesPast through sections judged verbOf inRange limited forms formAt word spaced upToLF lineAt formRow findForm dueRow readLine isDigit digits number point weight openedOf fresh unmoved givenRoom statusesRoom filled weightsStand stepOf decidedOf refusalOf refusalBy takenBy acted resumed looks swaps closes goesOn readAtomic writeAtomic swappedOf met told joined joinTo stampOf withStamp row withRow place withPlace atomicAt withAtomic firstOf cellsOf slotCell slotOf nextRank freeStatus fullStatus lapped foundBy accessed recorded found shownBy newest newer among stands sizesStand shapeStands inShape partsStand threadsStand threadStands placeStands firstsStand cellsStand atomicsStand atomicStands viewStands recordsStand recordStands allBelow _and_ _or_ contentOf
 starred-hold = refl

@@ -1,6 +1,7 @@
 -- What a case asks, and how the definitions reply. Assumes nothing.
 use Prim.Native.Nat.{ℕ, zero, suc, _-_}
-use mathlib.Core.List.{List, [], _∷_}
+use mathlib.Core.List.{List, [], _∷_, _++_}
+use mathlib.Core.Option.{Option}
 use lib.ListN.{replicate}
 use Rattle.form.specs.declared.Due.the-variants.{WeightDue}
 use Rattle.fault.specs.Refusal.{numberOf, placeOf, partOf}
@@ -8,7 +9,9 @@ use Rattle.line.specs.Row.{readLine}
 use Rattle.line.specs.declared.LineRead.{LineRead}
 use Rattle.line.specs.declared.LineRead.the-variants.{Took, Fault}
 use Rattle.fault.specs.declared.Refusal.{Refusal}
-use Rattle.rules.specs.Step.{stepOf, contentOf}
+use Rattle.rules.specs.Log.{Entry, Point, start, through, seen}
+use Rattle.rules.specs.Queue.{Line, plain}
+use Rattle.rules.specs.Step.{contentOf}
 use Rattle.opening.specs.Opening.{openedOf}
 use Rattle.reported.specs.Report.{reportText}
 use Rattle.texts.specs.Schedule.{Schedule, Outcome, schedule, refusal, weightIn, reads}
@@ -26,6 +29,8 @@ pub record End : Type 0 where
   pub tail : ℕ
   pub head : ℕ
   pub queue : List Answer
+  -- the plain list after the won swaps of the log, if it is one
+  pub line : Option Line
 
 pub data Question : Type 0 where
   -- a line, read where a weight is due
@@ -65,26 +70,26 @@ unfoldable pub held : Machine → List Write → ℕ → ℕ → List Answer
 held m ws k zero = []
 held m ws k (suc n) = contentOf m ws k ∷ held m ws (suc k) n
 
-abbrev pub ended : Machine → List Write → End
-ended m ws =
+-- the answers of a log, the oldest first
+unfoldable pub answersIn : List Entry → List Answer
+answersIn [] = []
+answersIn (e ∷ es) = answersIn es ++ (e .answer ∷ [])
+
+-- what a run has come to at a point
+unfoldable pub endAt : Point → End
+endAt p =
+    let m = p .machine in
     record {
-      answers = [];
+      answers = answersIn (p .log);
       tail = m .tail .value;
       head = m .head .value;
-      queue = held m ws (m .tail .value) (m .head .value - m .tail .value);
+      queue = held m (p .writes) (m .tail .value) (m .head .value - m .tail .value);
+      line = plain (m .shape .slots) (seen (p .log) .ops);
     }
-
-abbrev pub after : Answer → End → End
-after a e = record { answers = a ∷ e .answers; tail = e .tail; head = e .head; queue = e .queue }
-
--- each step, refused ones included
-unfoldable pub endOf : Machine → List Write → List Step → End
-endOf m ws [] = ended m ws
-endOf m ws (s ∷ ss) = after (stepOf m ws s .done .answer) (endOf (stepOf m ws s .done .machine) (stepOf m ws s .writes) ss)
 
 -- what the definitions reply; a run has 16 records lent
 unfoldable pub reply : Question → Reply
 reply (weightLine s) = ofLine s (readLine WeightDue s 0)
 reply (wholeText s) = ofText s (reads s)
-reply (run t c plain steps) = ends (endOf (openedOf t c plain [] .machine) (replicate 16 noWrite) steps)
+reply (run t c firsts steps) = ends (endAt (through (start (openedOf t c firsts [] .machine) (replicate 16 noWrite)) steps))
 reply (report s) = prints (reportText s)

@@ -3,10 +3,11 @@ use Prim.Native.Nat.{ℕ}
 use Prim.Native.String.{String}
 use mathlib.Core.Path.{_≡_}
 use mathlib.Core.List.{List, [], _∷_, _++_, map}
+use mathlib.Core.Option.{some}
 use Rattle.cases.specs.Question.{Question, weightLine, wholeText, run, report, Reply, taken, refused, ends, prints, reply}
 use Rattle.number.specs.Bytes.{bytes}
 use Rattle.step.specs.declared.Answer.{Answer}
-use Rattle.step.specs.declared.Answer.the-variants.{Dash, Ok, Value, Yes, No, Refused}
+use Rattle.step.specs.declared.Answer.the-variants.{Dash, Ok, Value, Yes, No, Got, Refused}
 use Rattle.step.specs.declared.Step.{Step}
 use Rattle.step.specs.declared.Verb.{Verb}
 use Rattle.step.specs.declared.Verb.the-variants.{Get, Set, Put, Take, Go, GoAt}
@@ -45,11 +46,19 @@ pub record Played : Type 0 where
   pub tail : ℕ
   pub head : ℕ
   pub queue : List Answer
+  pub inside : List ℕ
+  pub handed : List ℕ
 
 abbrev pub played : Played → Row
 played p =
     run (p .threads) (p .slots) (p .plain) (map (λ (x : Answered). x .step) (p .steps))
-    gives ends record { answers = map (λ (x : Answered). x .answer) (p .steps); tail = p .tail; head = p .head; queue = p .queue }
+    gives ends record {
+      answers = map (λ (x : Answered). x .answer) (p .steps);
+      tail = p .tail;
+      head = p .head;
+      queue = p .queue;
+      line = some (record { inside = p .inside; handed = p .handed });
+    }
 
 -- Cell 1: thread 1 sets at 2.000, thread 2 then sets at 1.000: both taken. Thread 1 gets at 1.000: 12. Thread 2 gets at 2.000, then at
 -- 1.000: both taken. Thread 2 sets at 2.000: 13; thread 2 sets at 1.000 again: 12.
@@ -71,6 +80,8 @@ cellOne =
       tail = 0;
       head = 0;
       queue = [];
+      inside = [];
+      handed = [];
     }
 
 -- the five steps of a put that is answered yes, stamped 1.000
@@ -88,6 +99,8 @@ published =
       tail = 0;
       head = 1;
       queue = Value 5000 ∷ [];
+      inside = 5000 ∷ [];
+      handed = [];
     }
 
 -- With rank 0's take past its tail swap and short of its fifth step, a put still answers no though head equals tail.
@@ -105,6 +118,8 @@ takeInside =
       tail = 1;
       head = 1;
       queue = [];
+      inside = [];
+      handed = 5000 ∷ [];
     }
 
 -- "else rank and `-`": a put between its head swap and its last step is in the queue without a weight
@@ -118,6 +133,28 @@ unpublished =
       tail = 0;
       head = 2;
       queue = Value 5000 ∷ Dash ∷ [];
+      inside = 5000 ∷ 6000 ∷ [];
+      handed = [];
+    }
+
+-- the steps of "one whole listing"
+abbrev pub listing : Played
+listing =
+    record {
+      threads = 2;
+      slots = 1;
+      plain = 0 ∷ [];
+      steps =
+          by 1 (Set 1 70000 1000) Ok
+          ∷ putBy 1 12500
+          (by 2 Take Dash ∷ by 2 Go Dash ∷ by 2 Go Dash ∷ by 2 (GoAt 1000) Dash ∷ by 2 Go (Got 12500)
+          ∷ by 2 (Get 1 1000) (Value 70000) ∷ by 2 (Get 1 0) (Refused 12)
+          ∷ []);
+      tail = 1;
+      head = 1;
+      queue = [];
+      inside = [];
+      handed = 12500 ∷ [];
     }
 
 -- "one whole listing": input and output
@@ -183,6 +220,7 @@ table =
     ∷ played published
     ∷ played takeInside
     ∷ played unpublished
+    ∷ played listing
     ∷ report (lines input) gives prints (lines output)
     ∷ []
 

@@ -3,7 +3,7 @@ use mathlib.Core.Path.{_≡_, refl, ap, subst, sym, _∙_}
 use mathlib.Core.Bool.{Bool, true, false}
 use mathlib.Core.List.{List}
 use mathlib.Core.Logic.{⊎-elim}
-use Prim.Native.Nat.{ℕ, _-_, _≤_}
+use Prim.Native.Nat.{ℕ, _-_, _<_, _≤_}
 use native.Mathlib.Omega.{arith}
 use borrow.Author.Tests.{leb-true, le-leb, le-ltb, ltb-false}
 use lib.Dec.{leb, ltb}
@@ -11,12 +11,13 @@ use lib.ListN.{length}
 use Rattle.decision.proofs.Sizes.{sized}
 use Rattle.decision.specs.Bounds.{Sized}
 use Rattle.decision.specs.Decision.{rankFits, standsIf}
-use Rattle.decision.specs.Known.{judgedBy, decidedWith, leftBy, stepBy}
+use Rattle.decision.specs.Known.{judgedBy, decidedWith, leftBy, stepBy, KnownNumbered, KnownKeeps}
 use Rattle.laws.proofs.Choice.{either}
 use Rattle.laws.proofs.Tests.{apart}
 use Rattle.laws.specs.Tests.{_and_, _or_}
 use Rattle.parts.specs.Parts.{partsStand}
 use Rattle.places.specs.Places.{rankOf}
+use Rattle.rules.proofs.Refused.{decided-numbered, decided-keeps}
 use Rattle.rules.specs.Step.{refusalOf, decidedOf, stepOf}
 use Rattle.standing.proofs.Bounds.{noted, sizes}
 use Rattle.standing.specs.Stands.{stands}
@@ -75,3 +76,11 @@ module _ (m : Machine) (ws : List Write) (s : Step) where
   pub as-known : (known : Bool) → (known ≡ true → stands m ws ≡ true) → stepBy known m ws s ≡ stepOf m ws s
   as-known true h = known-step (h refl)
   as-known false h = unknown-step
+
+pub known-numbered : KnownNumbered
+unfolding stepBy
+known-numbered known m ws s = decided-numbered _ m s _ _
+
+pub known-keeps : KnownKeeps
+unfolding stepBy
+known-keeps known m ws s h = decided-keeps _ m ws s _ _ (subst (λ (r : ℕ). 0 < r) (known-numbered known m ws s) h)

@@ -2,6 +2,7 @@
 use mathlib.Core.Bool.{Bool, true, false}
 use mathlib.Core.List.{List}
 use mathlib.Core.Path.{_≡_}
+use Prim.Native.Nat.{_<_}
 use lib.ListN.{length}
 use Rattle.decision.specs.Decision.{rankFits}
 use Rattle.laws.specs.Tests.{_and_}
@@ -11,6 +12,7 @@ use Rattle.rules.specs.Step.{Outcome, outcome, asked, decidedBy, stepOf}
 use Rattle.rules.specs.declared.Decided.{Decided}
 use Rattle.standing.specs.Stands.{sizesStand, stands}
 use Rattle.state.specs.declared.Machine.{Machine}
+use Rattle.step.specs.Answer.{numberOf}
 use Rattle.step.specs.declared.Step.{Step}
 use Rattle.writes.specs.Records.{recorded}
 use Rattle.writes.specs.declared.Write.{Write}
@@ -36,3 +38,15 @@ StepAnew = (m : Machine) (ws : List Write) (s : Step) → stepBy false m ws s �
 
 abbrev pub StepKnown : Type 0
 StepKnown = (m : Machine) (ws : List Write) (s : Step) → stands m ws ≡ true → stepBy true m ws s ≡ stepOf m ws s
+
+-- However 14 is judged, the step is answered with the number of the first refusal in order, and a refused one gives back the same state and list.
+abbrev pub KnownNumbered : Type 0
+KnownNumbered =
+    (known : Bool) (m : Machine) (ws : List Write) (s : Step)
+    → numberOf (stepBy known m ws s .done .answer)
+    ≡ refusalBy (judgedBy known m ws s) m (length ws) s (asked m s) (foundBy m ws (asked m s))
+
+abbrev pub KnownKeeps : Type 0
+KnownKeeps =
+    (known : Bool) (m : Machine) (ws : List Write) (s : Step) → 0 < numberOf (stepBy known m ws s .done .answer)
+    → (stepBy known m ws s .done .machine ≡ m) × (stepBy known m ws s .writes ≡ ws)

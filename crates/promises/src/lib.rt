@@ -4,13 +4,16 @@ ghost use Rattle.digits.specs.Promise.{CountReadBack, CountOnlyText, WeightRead
 ghost use Rattle.texts.specs.Promise.{LineReadBack, LineOnlyText, LineOneText};
 ghost use Rattle.texts.specs.Promise.{ScheduleReadBack, ScheduleOnlyText, LineNumbered, JudgedNumbered};
 ghost use Rattle.cases.specs.Table.{StarredHold};
-ghost use Rattle.rules.specs.Kept.{Numbered, RefusedKeeps, TakenCounts, StandingKept, FreshStands, FreshWhole, WholeKept, RefusedFalls, RoomKept};
-ghost use Rattle.decision.specs.Known.{StepAnew, StepKnown};
-ghost use Rattle.published.specs.Follows.{TakenFollows, AllowedTaken, OneEvent, DueByCode};
+ghost use Rattle.rules.specs.Kept.{Numbered, StepNumbered, RefusedKeeps, TakenCounts, StandingKept, FreshStands, FreshWhole, WholeKept, RefusedFalls, RoomKept, RoomUnjudged};
+ghost use Rattle.decision.specs.Known.{StepAnew, StepKnown, KnownNumbered, KnownKeeps};
+ghost use Rattle.published.specs.Follows.{TakenFollows, AllowedTaken, OneEvent, OneOutcome, OnlyOutcome, StepsAlike, DueByCode};
+ghost use Rattle.published.specs.Premises.{ViewRefused, HistoryRefused};
 ghost use Rattle.rules.specs.Queue.{QueueHolds};
 ghost use Rattle.rules.specs.Reached.{ReachedHolds};
+ghost use Rattle.run.specs.Prefix.{RanThrough};
 ghost use Rattle.reported.specs.Promise.{ReportShort, ReportWhole};
-ghost use Rattle.image.specs.Promise.{ImageLong, ImageFaithful};
+ghost use Rattle.image.specs.Promise.{ImageLong, ImageFaithful, ImageWhole};
+ghost use Rattle.promises.specs.Shown.{ReportShows};
 ghost use Rattle.promises.specs.Writing.{WrittenBack, OnlyItsBytes, RefusedUntouched, PrintedUntouched, SaidPrinted};
 
 // Each number has one text, and the readers take those texts only.
@@ -44,9 +47,10 @@ pub fn starred_cases_hold()
     ensures { λ r. ⌜ StarredHold ⌝ }
 {}
 
-// A step is answered with the number of its refusal; a refused one gives back the same state and list, a taken one counts one step.
+// A step is answered with the number of its refusal, one of 6 to 14; a refused one gives back the same state and list, a taken one counts one
+// step.
 pub fn refused_steps_keep()
-    ensures { λ r. ⌜ Numbered × RefusedKeeps × TakenCounts ⌝ }
+    ensures { λ r. ⌜ Numbered × StepNumbered × RefusedKeeps × TakenCounts ⌝ }
 {}
 
 // Every step leaves a standing state standing; a fresh machine stands, and a refused opening gives none.
@@ -59,9 +63,14 @@ pub fn room_is_kept()
     ensures { λ r. ⌜ RoomKept × FreshWhole × WholeKept ⌝ }
 {}
 
+// Room is neither judged nor looked at: machines that agree outside it stand alike, and a step of either is the same but for their room.
+pub fn room_is_not_judged()
+    ensures { λ r. ⌜ RoomUnjudged × StepsAlike ⌝ }
+{}
+
 // A run need not judge its state anew at each step: of a state that stands, the step is the same.
 pub fn states_are_judged_once()
-    ensures { λ r. ⌜ StepAnew × StepKnown ⌝ }
+    ensures { λ r. ⌜ StepAnew × StepKnown × KnownNumbered × KnownKeeps ⌝ }
 {}
 
 // A step is taken exactly when it is admitted and the published rules allow it, and it does what the rule says. The line that is due at a
@@ -70,10 +79,30 @@ pub fn steps_follow_the_rules()
     ensures { λ r. ⌜ TakenFollows × AllowedTaken × OneEvent × DueByCode ⌝ }
 {}
 
+// What the rules say of a step names the whole of what it leaves, answer, state and list: two outcomes that do so are equal.
+pub fn steps_have_one_outcome()
+    ensures { λ r. ⌜ OneOutcome × OnlyOutcome ⌝ }
+{}
+
+// 12 is given exactly when the rule's premise on the thread's view fails, 13 exactly when that holds and the one on the history fails.
+pub fn premises_are_numbered()
+    ensures { λ r. ⌜ ViewRefused × HistoryRefused ⌝ }
+{}
+
 // From a fresh machine, over any steps, refused ones included: the won calls' answers are those of a plain first-in first-out list of at
 // most C weights, each rank is taken at most once and answered as put, the taker's view covers the putter's, one stamp is accepted.
 pub fn the_queue_holds()
     ensures { λ r. ⌜ QueueHolds ⌝ }
+{}
+
+// A schedule's run is that run over any steps, up to its first refused one: same answers, state and list.
+pub fn runs_are_one()
+    ensures { λ r. ⌜ RanThrough ⌝ }
+{}
+
+// And the queue of its report is the plain list: its weights in order, or `-` while a putter has not published.
+pub fn reports_show_the_list()
+    ensures { λ r. ⌜ ReportShows ⌝ }
 {}
 
 // In every state that is reached, every stamp of every view is in its cell's history, and no thread is stuck at a plain read.
@@ -81,9 +110,9 @@ pub fn no_thread_is_stuck()
     ensures { λ r. ⌜ ReachedHolds ⌝ }
 {}
 
-// The image of a state loses nothing: a state that is read from its image is that state.
+// The image of a state loses nothing: a state that is read from its image is that state. Whatever is read is a state.
 pub fn images_are_faithful()
-    ensures { λ r. ⌜ ImageLong × ImageFaithful ⌝ }
+    ensures { λ r. ⌜ ImageLong × ImageFaithful × ImageWhole ⌝ }
 {}
 
 // Every report fits the room that the program has for it, the first line 64 bytes and the others 131,072, so nothing of one is lost.

@@ -1,11 +1,11 @@
 -- A step is taken exactly when no test of a refusal holds. Assumes nothing.
 use mathlib.Core.Path.{_≡_}
-use mathlib.Core.Bool.{false}
+use mathlib.Core.Bool.{true, false}
 use mathlib.Core.List.{List}
 use Prim.Native.Nat.{ℕ, _-_}
 use lib.ListN.{length}
 use Rattle.accesses.specs.Accesses.{outdated, amiss}
-use Rattle.refusal.proofs.Passed.{passed, unrefused}
+use Rattle.refusal.proofs.Passed.{first, others, early, late, Passed, past-early, by-late, passed, unrefused}
 use Rattle.rules.specs.Access.{foundBy}
 use Rattle.rules.specs.Step.{asked, refusalOf}
 use Rattle.published.specs.Follows.{Admitted}
@@ -20,16 +20,37 @@ use Rattle.writes.specs.declared.Write.{Write}
 abbrev pub Fits : Machine → List Write → ℕ → Access → Type 0
 Fits m ws i a = (outdated a (row m i) ≡ false) × (amiss a (foundBy m ws a) ≡ false)
 
--- what holds of a step that is taken
-pub admitted : (m : Machine) (ws : List Write) (s : Step) → refusalOf m ws s ≡ 0 → Admitted m ws s × Fits m ws (s .thread - 1) (asked m s)
-unfolding refusalOf
-admitted m ws s e =
-    let p = passed (stands m ws) m (length ws) s (asked m s) (foundBy m ws (asked m s)) e in
-    (record { stand = p .stands; steps = p .steps; thread = p .thread; due = p .due; cell = p .names; range = p .range; room = p .room }, (p .current, p .fits))
+module _ (m : Machine) (ws : List Write) (s : Step) where
+  -- what document 01 asks before a rule is looked at: the tests before 12 are passed
+  abbrev Early : Type 0
+  Early = Passed (stands m ws) m (length ws) s (asked m s) (foundBy m ws (asked m s))
 
--- and back
-pub taken-if : (m : Machine) (ws : List Write) (s : Step) → Admitted m ws s → Fits m ws (s .thread - 1) (asked m s) → refusalOf m ws s ≡ 0
-unfolding refusalOf
-taken-if m ws s A F =
-    unrefused (stands m ws) m (length ws) s (asked m s) (foundBy m ws (asked m s))
-    (record { stands = A .stand; steps = A .steps; thread = A .thread; due = A .due; names = A .cell; range = A .range; room = A .room; current = F .0; fits = F .1 })
+  admits : Early → Admitted m ws s
+  admits p = record { stand = p .stands; steps = p .steps; thread = p .thread; due = p .due; cell = p .names; range = p .range; room = p .room }
+
+  passes : Admitted m ws s → Early
+  passes A = record { stands = A .stand; steps = A .steps; thread = A .thread; due = A .due; names = A .cell; range = A .range; room = A .room }
+
+  -- what holds of a step that is taken
+  pub admitted : refusalOf m ws s ≡ 0 → Admitted m ws s × Fits m ws (s .thread - 1) (asked m s)
+  unfolding refusalOf
+  admitted e =
+      let p = passed (stands m ws) m (length ws) s (asked m s) (foundBy m ws (asked m s)) e in
+      (admits (p .0), p .1)
+
+  -- and back
+  pub taken-if : Admitted m ws s → Fits m ws (s .thread - 1) (asked m s) → refusalOf m ws s ≡ 0
+  unfolding refusalOf
+  taken-if A F = unrefused (stands m ws) m (length ws) s (asked m s) (foundBy m ws (asked m s)) (passes A) F
+
+  -- a number that no test before 12 gives, the last two give
+  pub past : (r : ℕ) → others r (early (stands m ws) m (length ws) s (asked m s) (foundBy m ws (asked m s))) ≡ true → refusalOf m ws s ≡ r
+      → Admitted m ws s × (first (late (stands m ws) m (length ws) s (asked m s) (foundBy m ws (asked m s))) ≡ r)
+  unfolding refusalOf
+  past r n e =
+      let x = past-early (stands m ws) m (length ws) s (asked m s) (foundBy m ws (asked m s)) r n e in
+      (admits (x .0), x .1)
+
+  pub by-last : Admitted m ws s → refusalOf m ws s ≡ first (late (stands m ws) m (length ws) s (asked m s) (foundBy m ws (asked m s)))
+  unfolding refusalOf
+  by-last A = by-late (stands m ws) m (length ws) s (asked m s) (foundBy m ws (asked m s)) (passes A)

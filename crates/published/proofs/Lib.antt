@@ -1,7 +1,13 @@
 pub mod Admission
 pub mod Rules
 pub mod Made
+pub mod Premises
 pub mod Lines
 pub mod Follows
+pub mod Rest
 pub mod OneEvent
+pub mod OneRule
+pub mod OneStep
+pub mod OneOutcome
+pub mod StepsAlike
 pub mod Due

@@ -1,3 +1,4 @@
 pub mod Memory
 pub mod Calls
 pub mod Follows
+pub mod Premises

@@ -1,8 +1,9 @@
--- The chain of a step's refusals as a list, and all that is said of it: no number is given exactly when every test is passed, 12 and 13 only past
--- the tests before them, and none above 99. Assumes nothing.
+-- The chain of a step's refusals as a list, and all that is said of it: past the tests before 12 the number is what the last two give, and
+-- every number is 0 or one of 6 to 14. Assumes nothing.
 use mathlib.Core.Path.{_≡_, refl, sym, _∙_}
 use mathlib.Core.Bool.{Bool, true, false, not, false≢true}
 use mathlib.Core.List.{List, [], _∷_, _++_}
+use mathlib.Core.Logic.{_⊎_, inl, inr}
 use Prim.Native.Nat.{ℕ, zero, suc, _-_, _<_, _≤_}
 use native.Mathlib.Omega.{arith}
 use borrow.Author.Tests.{leb-true, leb-false, ltb-false, eqb-true, eq-eqb, le-leb, lt-leb, le-ltb, not-false}
@@ -36,7 +37,7 @@ abbrev Test : Type 0
 Test = Bool × ℕ
 
 -- the number of the first test that holds, 0 where none does
-abbrev first : List Test → ℕ
+abbrev pub first : List Test → ℕ
 first [] = 0
 first (t ∷ ts) = refuse (t .0) (t .1) (first ts)
 
@@ -45,10 +46,10 @@ unfoldable pub others : ℕ → List Test → Bool
 others r [] = true
 others r (t ∷ ts) = not (eqb (t .1) r) and others r ts
 
--- every number given has at most two digits
-unfoldable short : List Test → Bool
-short [] = true
-short (t ∷ ts) = leb (t .1) 99 and short ts
+-- every number given is one of 6 to 14
+unfoldable stepping : List Test → Bool
+stepping [] = true
+stepping (t ∷ ts) = (leb 6 (t .1) and leb (t .1) 14) and stepping ts
 
 abbrev Fails : List Test → Type 0
 Fails [] = Unit {0}
@@ -63,11 +64,13 @@ beyond ((false, k) ∷ ts) us r n e =
     let x = beyond ts us r (apart _ _ n .1) e in
     ((refl, x .0), x .1)
 
-first-short : (ts : List Test) → short ts ≡ true → first ts ≤ 99
-unfolding short
-first-short [] e = omega arith
-first-short ((true, k) ∷ ts) e = leb-true k 99 (apart _ _ e .0)
-first-short ((false, k) ∷ ts) e = first-short ts (apart _ _ e .1)
+first-stepping : (ts : List Test) → stepping ts ≡ true → (first ts ≡ 0) ⊎ ((6 ≤ first ts) × (first ts ≤ 14))
+unfolding stepping
+first-stepping [] e = inl refl
+first-stepping ((true, k) ∷ ts) e =
+    let x = apart _ _ (apart _ _ e .0) in
+    inr (leb-true 6 k (x .0), leb-true k 14 (x .1))
+first-stepping ((false, k) ∷ ts) e = first-stepping ts (apart _ _ e .1)
 
 module _ (stand : Bool) (m : Machine) (lent : ℕ) (s : Step) (a : Access) (f : Found) where
   -- the tests before 12, in their order
@@ -83,14 +86,14 @@ module _ (stand : Bool) (m : Machine) (lent : ℕ) (s : Step) (a : Access) (f : 
       ∷ []
 
   -- those that look at the thread's view and the history
-  abbrev late : List Test
+  abbrev pub late : List Test
   late = (outdated a (row m (s .thread - 1)), 12) ∷ (amiss a f, 13) ∷ []
 
   in-order : refusalBy stand m lent s a f ≡ first (early ++ late)
   unfolding refusalBy
   in-order = refl
 
-  -- every test passed, in the order of the numbers
+  -- every test before 12 passed, in the order of the numbers
   pub record Passed : Type 0 where
     pub stands : stand ≡ true
     pub steps : m .steps < 4096
@@ -99,47 +102,54 @@ module _ (stand : Bool) (m : Machine) (lent : ℕ) (s : Step) (a : Access) (f : 
     pub names : named (m .shape) (s .verb) ≡ true
     pub range : greatest (s .verb) ≤ most
     pub room : full a (m .held) lent ≡ false
-    pub current : outdated a (row m (s .thread - 1)) ≡ false
-    pub fits : amiss a f ≡ false
 
-  pub passed : refusalBy stand m lent s a f ≡ 0 → Passed
-  unfolding others _and_
-  passed e =
-      let t14 = beyond (early ++ late) [] 0 refl (sym in-order ∙ e) .0 in
+  -- where the number is none of the early ones, the late tests say it
+  pub past-early : (r : ℕ) → others r early ≡ true → refusalBy stand m lent s a f ≡ r → Passed × (first late ≡ r)
+  past-early r n e =
+      let x = beyond early late r n (sym in-order ∙ e) in
+      let t14 = x .0 in
       let t6 = t14 .1 in
       let t7 = t6 .1 in
       let t8 = t7 .1 in
       let t9 = t8 .1 in
       let t10 = t9 .1 in
-      let t11 = t10 .1 in
-      let t12 = t11 .1 in
-      let t13 = t12 .1 in
-      record {
-        stands = not-false _ (t14 .0);
-        steps = leb-false _ _ (t6 .0);
-        thread = among-some _ _ (not-false _ (t7 .0));
-        due = eqb-true _ _ (not-false _ (t8 .0));
-        names = not-false _ (t9 .0);
-        range = ltb-false _ _ (t10 .0);
-        room = t11 .0;
-        current = t12 .0;
-        fits = t13 .0;
-      }
+      let t11 = t10 .1 in (
+        record {
+          stands = not-false _ (t14 .0);
+          steps = leb-false _ _ (t6 .0);
+          thread = among-some _ _ (not-false _ (t7 .0));
+          due = eqb-true _ _ (not-false _ (t8 .0));
+          names = not-false _ (t9 .0);
+          range = ltb-false _ _ (t10 .0);
+          room = t11 .0;
+        },
+        x .1,
+      )
 
-  pub unrefused : Passed → refusalBy stand m lent s a f ≡ 0
+  -- and back
+  pub by-late : Passed → refusalBy stand m lent s a f ≡ first late
   unfolding refusalBy
-  unrefused p =
-      rw (p .stands, lt-leb 4096 (m .steps) (p .steps), some-among (s .thread) (m .shape .threads) (p .thread), eq-eqb _ _ (p .due), p .names, le-ltb most _ (p .range), p .room, p .current, p .fits)
+  by-late p =
+      rw (p .stands, lt-leb 4096 (m .steps) (p .steps), some-among (s .thread) (m .shape .threads) (p .thread), eq-eqb _ _ (p .due), p .names, le-ltb most _ (p .range), p .room)
 
-  -- where the number is none of the early ones, the cell or flag is this machine's, and the late tests say it
-  pub past-early : (r : ℕ) → others r early ≡ true → refusalBy stand m lent s a f ≡ r
-      → (named (m .shape) (s .verb) ≡ true) × (first late ≡ r)
-  past-early r n e =
-      let x = beyond early late r n (sym in-order ∙ e) in
-      let t9 = x .0 .1 .1 .1 .1 in
-      (not-false _ (t9 .0), x .1)
+  -- the late tests passed too
+  abbrev pub Current : Type 0
+  Current = (outdated a (row m (s .thread - 1)) ≡ false) × (amiss a f ≡ false)
 
-  -- a number of at most two digits
-  pub number-short : refusalBy stand m lent s a f ≤ 99
-  unfolding short _and_
-  number-short = rw in-order (first-short (early ++ late) refl)
+  pub passed : refusalBy stand m lent s a f ≡ 0 → Passed × Current
+  unfolding others _and_
+  passed e =
+      let x = past-early 0 refl e in
+      let t = beyond late [] 0 refl (x .1) .0 in
+      (x .0, (t .0, t .1 .0))
+
+  pub unrefused : Passed → Current → refusalBy stand m lent s a f ≡ 0
+  unrefused p c = by-late p ∙ none
+    where
+      none : first late ≡ 0
+      none = rw (c .0, c .1)
+
+  -- 0, or one of 6 to 14
+  pub number-in : (refusalBy stand m lent s a f ≡ 0) ⊎ ((6 ≤ refusalBy stand m lent s a f) × (refusalBy stand m lent s a f ≤ 14))
+  unfolding stepping _and_
+  number-in = rw in-order (first-stepping (early ++ late) refl)

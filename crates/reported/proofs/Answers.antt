@@ -83,7 +83,7 @@ PassedAll m ws s = Passed (stands m ws) m (length ws) s (asked m s) (foundBy m w
 
 pub passed-all : (m : Machine) (ws : List Write) (s : Step) → numberGiven m ws s ≡ 0 → PassedAll m ws s
 unfolding refusalOf
-passed-all m ws s e = passed _ _ _ _ _ _ (sym (numbered m ws s) ∙ e)
+passed-all m ws s e = passed _ _ _ _ _ _ (sym (numbered m ws s) ∙ e) .0
 
 taken-by : (m : Machine) (ws : List Write) (s : Step) → PassedAll m ws s → InRange (takenBy m s (asked m s) (foundBy m ws (asked m s)) .answer)
 unfolding takenBy

@@ -6,22 +6,21 @@ use mathlib.Core.List.{List, [], _∷_, map}
 use mathlib.Core.Logic.{_⊎_, inl, inr, ⊎-elim}
 use mathlib.Core.Path.{_∙_, _≡_, ap, refl, sym}
 use native.Mathlib.Omega.{arith}
-use Rattle.refusal.proofs.Passed.{number-short}
 use Rattle.rules.proofs.Fresh.{refused-falls}
-use Rattle.rules.proofs.Refused.{numbered, taken-counts}
+use Rattle.rules.proofs.Refused.{step-numbered, taken-counts}
 use Rattle.rules.proofs.Standing.{standing}
 use Rattle.rules.specs.Kept.{numberGiven}
 use Rattle.laws.specs.Tests.{_and_}
-use Rattle.rules.specs.Access.{foundBy}
-use Rattle.rules.specs.Step.{asked, refusalOf, stepOf}
+use Rattle.rules.specs.Step.{stepOf}
 use Rattle.number.proofs.Decimal.{length-pow}
 use Rattle.opening.specs.Opening.{fresh, openedIf, openedOf, refusedOpening, unmoved, weightsStand}
 use Rattle.printed.proofs.Fits.{answer-short}
 use Rattle.printed.specs.Printed.{linesText, printedText}
 use Rattle.rules.proofs.Begun.{fresh-sound}
 use Rattle.rules.proofs.Sound.{Sound, run}
-use Rattle.rules.specs.Notes.{Point, next, start, through}
+use Rattle.rules.specs.Log.{Point, start}
 use Rattle.reported.proofs.Answers.{passed-all, taken-in}
+use Rattle.run.proofs.Prefix.{ran-through}
 use Rattle.run.specs.Ends.{toldLine}
 use Rattle.run.specs.Run.{Run, Told, goesOnAfter, ran, stops}
 use Rattle.standing.proofs.Bounds.{bounds}
@@ -77,8 +76,8 @@ counted m ws (s ∷ ss) =
     (λ e. omega (arith, taken-counts m ws s e, counted (o .done .machine) (o .writes) ss))
 
 number-small : (m : Machine) (ws : List Write) (s : Step) → numberGiven m ws s ≤ 99
-unfolding refusalOf
-number-small m ws s = omega (arith, numbered m ws s, number-short (stands m ws) m (length ws) s (asked m s) (foundBy m ws (asked m s)))
+number-small m ws s =
+    ⊎-elim (λ (e : numberGiven m ws s ≡ 0). omega arith) (λ (h : (6 ≤ numberGiven m ws s) × (numberGiven m ws s ≤ 14)). omega (arith, h .1)) (step-numbered m ws s)
 
 pub refused-small : (m : Machine) (ws : List Write) (ss : List Step) → ran m ws ss .refused ≤ 99
 unfolding ran
@@ -99,15 +98,6 @@ sound-listed p S =
       omega (arith, fits .head .0, fits .counts .0),
       λ h. S .stand,
     )
-
--- a run ends at a point that its steps reach
-ran-listed : (p : Point) (ss : List Step) → ((us : List Step) → Listed (through p us .machine) (through p us .writes))
-    → let r = ran (p .machine) (p .writes) ss in Listed (r .machine) (r .writes)
-unfolding ran through next
-ran-listed p [] f = f []
-ran-listed p (s ∷ ss) f =
-    goes-on (λ r. Listed (r .machine) (r .writes)) (numberGiven (p .machine) (p .writes) s) _ _ (f [])
-    (λ e. ran-listed (next p s) ss (λ us. f (s ∷ us)))
 
 -- from a state that does not stand no step is taken
 ran-fallen : (m : Machine) (ws : List Write) (ss : List Step) → stands m ws ≡ false → ran m ws ss .machine ≡ m
@@ -150,7 +140,8 @@ listed t c plain flags ws ss =
     let m = openedOf t c plain flags .machine in
     ⊎-elim
     (λ (e : openedOf t c plain flags .answer ≡ Ok).
-    ran-listed (start m ws) ss (λ us. sound-listed _ (run (start m ws) (fresh-sound t c plain flags ws e) us)))
+    let u = ran-through (start m ws) ss in
+    rw (u .machine, u .writes) (sound-listed _ (run (start m ws) (fresh-sound t c plain flags ws e) _)))
     (λ (e : (m .head .value ≡ 0) × (0 < numberOf (openedOf t c plain flags .answer))).
     let k = ap (λ (n : Machine). n .head .value) (ran-fallen m ws ss (refused-falls t c plain flags ws (e .1))) in
     (omega (arith, k, e .0), omega (arith, k, e .0), λ h. absurd (omega (arith, k, e .0, h))))

@@ -1,7 +1,7 @@
 -- A fresh machine with nothing noted is sound. Assumes nothing.
 use mathlib.Core.Path.{_≡_, refl, sym, ap, subst}
 use mathlib.Core.Bool.{Bool, true, false}
-use mathlib.Core.List.{List}
+use mathlib.Core.List.{List, []}
 use Prim.Native.Nat.{ℕ, zero, suc, _<_}
 use native.Mathlib.Nat.{mod-eq-of-lt}
 use native.Mathlib.Omega.{arith}
@@ -12,14 +12,14 @@ use Rattle.laws.proofs.Lists.{set-either, replicated, filled-here}
 use Rattle.laws.specs.Lists.{filled}
 use Rattle.laws.specs.Tests.{_and_}
 use Rattle.opening.specs.Opening.{weightsStand, flagsRoom, statusesRoom, unmoved, fresh, refusedOpening, openedIf, openedOf}
-use Rattle.rules.proofs.Owed.{ListedAt}
+use Rattle.rules.proofs.Listed.{ListedAt}
 use Rattle.rules.proofs.Recalled.{ShowsAll, Recalled}
 use Rattle.rules.proofs.Remembered.{Remembered}
 use Rattle.rules.proofs.Ring.{aside, is-free}
 use Rattle.rules.proofs.Ringed.{stage, stages, status, Ringed}
 use Rattle.rules.proofs.Sound.{Sound}
-use Rattle.rules.specs.Notes.{noNotes, start}
-use Rattle.rules.specs.Queue.{firstRanks}
+use Rattle.rules.specs.Log.{start, ins, outs, seen}
+use Rattle.rules.specs.Queue.{plain, Each}
 use Rattle.rank.specs.Rank.{slotOf, freeStatus}
 use Rattle.standing.proofs.Bounds.{Within, within-shape}
 use Rattle.standing.specs.Stands.{inShape, stands}
@@ -89,14 +89,22 @@ module _ (t c : ℕ) (plain flags : List ℕ) (B : Within t c (length plain) (le
         take-alone = λ i j k o _. absurd (rw (none i) at o);
       }
 
-  fresh-memory : (ws : List Write) → Remembered c (length plain) (firstOf m) m ws noNotes
-  unfolding fresh unmoved newest
-  fresh-memory ws = record { free = λ j a b. omega arith; full = λ j a b d. absurd (omega arith); knows = λ i. rw (none i) tt }
+  fresh-memory : (ws : List Write) → Remembered c (length plain) (firstOf m) m ws (seen [])
+  unfolding fresh unmoved newest seen ins
+  fresh-memory ws = record { free = λ j a b. omega arith; full = λ j a b d. absurd (omega arith); knows = λ i. rw (none i) tt; untold = λ j a. refl }
 
-  fresh-list : ListedAt m noNotes
-  unfolding fresh unmoved firstRanks
+  fresh-list : ListedAt c m (seen [])
+  unfolding fresh unmoved seen plain ins outs
   fresh-list =
-      record { count = refl; holds = λ j l. absurd (omega arith); unput = λ k l. refl; ranks = refl; marks = λ i. rw (idle i) tt }
+      record {
+        line = record { inside = []; handed = [] };
+        is = refl;
+        all = refl;
+        handed = refl;
+        put = refl;
+        out = refl;
+        marks = λ i. rw (idle i) refl;
+      }
 
   zeros : (ws : List Write) (k : ℕ) → ShowsAll k (firstOf m) ws 0 zeroView
   unfolding stampOf found
@@ -121,7 +129,7 @@ opened true true m e = (refl, refl)
 
 pub fresh-sound : (t c : ℕ) (plain flags : List ℕ) (ws : List Write) → openedOf t c plain flags .answer ≡ Ok
     → Sound (start (openedOf t c plain flags .machine) ws)
-unfolding openedOf start fresh unmoved
+unfolding openedOf start fresh unmoved Each
 fresh-sound t c plain flags ws e =
     let o = opened (inShape t c (length plain) (length flags)) (weightsStand plain and weightsStand flags) (fresh t c plain flags) e in
     subst (λ (m : Machine). Sound (start m ws)) (sym (o .1)) (parts (o .1) (within-shape _ _ _ _ (o .0)))
@@ -135,4 +143,6 @@ fresh-sound t c plain flags ws e =
           memory = fresh-memory t c plain flags B ws;
           list = fresh-list t c plain flags B;
           recall = fresh-recall t c plain flags B ws;
+          right = tt;
+          spare = λ i _. idle t c plain flags B i;
         }

@@ -57,4 +57,4 @@ decided-stands (suc r) m ws s a f e h = e
 pub standing-kept : StandingKept
 unfolding stepOf decidedOf refusalOf
 standing-kept m ws s e =
-    decided-stands (refusalOf m ws s) m ws s (asked m s) _ e (λ r. taken-stands m ws s (standing m ws e) (passed _ _ _ _ _ _ r))
+    decided-stands (refusalOf m ws s) m ws s (asked m s) _ e (λ r. taken-stands m ws s (standing m ws e) (passed _ _ _ _ _ _ r .0))

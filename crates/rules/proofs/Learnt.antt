@@ -10,7 +10,7 @@ use Rattle.rules.proofs.Ranks.{slot-in}
 use Rattle.rules.proofs.Ring.{Stage, aside, saw-free, filling, filled, saw-full, emptying, emptied, fills, empties, Ring}
 use Rattle.rules.proofs.Swapped.{free-now, full-now}
 use Rattle.rules.proofs.Updated.{Updated, at-both}
-use Rattle.rules.specs.Queue.{Covers}
+use Rattle.rules.specs.Queue.{Covers, CoversNoted}
 use Rattle.rank.specs.Rank.{slotOf, nextRank, freeStatus, fullStatus}
 use Rattle.view.specs.View.{stampOf}
 use Rattle.view.specs.declared.View.{View}
@@ -30,11 +30,6 @@ pub record Picture : Type 0 where
 abbrev pub Safe : ℕ → Picture → (ℕ → Stage) → Type 0
 Safe c p sg = Ring c (p .head) (p .tail) (p .st) sg
 
--- a view covers a noted one, of k cells
-abbrev pub CoversNoted : ℕ → Option View → View → Type 0
-CoversNoted k none v = ⊥
-CoversNoted k (some u) v = Covers k v u
-
 -- with n plain cells and c slots: a view has the newest stamp of the slot of a rank
 abbrev pub Newest : ℕ → ℕ → (ℕ → ℕ) → ℕ → View → Type 0
 Newest c n top k v = top (slotOf c k) ≤ stampOf v (n + slotOf c k)
@@ -47,8 +42,8 @@ Brings c n p k v = Newest c n (p .top) k v × CoversNoted (n + c) (p .published 
 abbrev pub Knows : ℕ → ℕ → Picture → View → Stage → Type 0
 Knows c n p v aside = Unit {0}
 Knows c n p v (saw-free k) = p .st (slotOf c k) ≡ freeStatus k → p .head ≤ k → Newest c n (p .top) k v
-Knows c n p v (filling k w) = Newest c n (p .top) k v × (p .put k ≡ some w)
-Knows c n p v (filled k) = Newest c n (p .top) k v × (p .put k ≡ some (p .val (slotOf c k)))
+Knows c n p v (filling k w) = Newest c n (p .top) k v × (p .put k ≡ some w) × (p .published k ≡ none)
+Knows c n p v (filled k) = Newest c n (p .top) k v × (p .put k ≡ some (p .val (slotOf c k))) × (p .published k ≡ none)
 Knows c n p v (saw-full k) = p .st (slotOf c k) ≡ fullStatus k → p .tail ≤ k → k < p .head → Brings c n p k v
 Knows c n p v (emptying k) = Brings c n p k v × (p .put k ≡ some (p .val (slotOf c k)))
 Knows c n p v (emptied k w) = Brings c n p k v × (p .put k ≡ some w)
@@ -59,6 +54,7 @@ pub record Memory (c n : ℕ) (p : Picture) (sg : ℕ → Stage) (vw lf : ℕ �
   pub full : (j : ℕ) → p .tail ≤ j → j < p .head → p .st (slotOf c j) ≡ fullStatus j
       → Brings c n p j (lf (slotOf c j)) × (p .put j ≡ some (p .val (slotOf c j)))
   pub knows : (i : ℕ) → Knows c n p (vw i) (sg i)
+  pub untold : (j : ℕ) → p .head ≤ j → p .published j ≡ none
 
 -- no rank but what thread i holds matters at slot z
 pub record Clear (c : ℕ) (p : Picture) (sg : ℕ → Stage) (i z : ℕ) : Type 0 where
@@ -86,7 +82,8 @@ module _ (c n : ℕ) (p : Picture) (sg : ℕ → Stage) (vw lf : ℕ → View) (
 
   -- nothing else changes
   pub look : Knows c n p x s → Memory c n p sg' vw' lf
-  look k = record { free = M .free; full = M .full; knows = λ j. at-both uv us (Knows c n p) j (λ _. k) (λ _. M .knows j) }
+  look k =
+      record { free = M .free; full = M .full; knows = λ j. at-both uv us (Knows c n p) j (λ _. k) (λ _. M .knows j); untold = M .untold }
 
   -- the head swap, won
   pub head-won : (h w : ℕ) → Safe c p sg → sg i ≡ saw-free h → s ≡ filling h w → p .head ≡ h → Covers (n + c) x (vw i)
@@ -97,8 +94,9 @@ module _ (c n : ℕ) (p : Picture) (sg : ℕ → Stage) (vw lf : ℕ → View) (
     free = λ j a b. M .free j a (omega arith);
     full = λ j a b d. let f = M .full j a (under j b d) d in (f .0, up .else j (omega (arith, under j b d)) ∙ f .1);
     knows = λ j. at-both uv us (Knows c n q) j
-        (λ _. subst (Knows c n q x) (sym es) (newest-up c n (p .top) h _ x (I .some) u (knew e was (omega arith)), up .here))
+        (λ _. subst (Knows c n q x) (sym es) (newest-up c n (p .top) h _ x (I .some) u (knew e was (omega arith)), up .here, M .untold h (omega arith)))
         (λ _. there j (vw j) (sg j) refl (M .knows j));
+    untold = λ j b. M .untold j (omega arith);
   }
     where
       q : Picture
@@ -123,8 +121,8 @@ module _ (c n : ℕ) (p : Picture) (sg : ℕ → Stage) (vw lf : ℕ → View) (
       there : (j : ℕ) (y : View) (r : Stage) → sg j ≡ r → Knows c n p y r → Knows c n q y r
       there j y aside d f = tt
       there j y (saw-free k) d f = λ a b. f a (omega arith)
-      there j y (filling k v) d f = (f .0, up .else k (filler j k (subst (λ (z : Stage). fills z k) (sym d) refl)) ∙ f .1)
-      there j y (filled k) d f = (f .0, up .else k (filler j k (subst (λ (z : Stage). fills z k) (sym d) refl)) ∙ f .1)
+      there j y (filling k v) d f = (f .0, up .else k (filler j k (subst (λ (z : Stage). fills z k) (sym d) refl)) ∙ f .1, f .2)
+      there j y (filled k) d f = (f .0, up .else k (filler j k (subst (λ (z : Stage). fills z k) (sym d) refl)) ∙ f .1, f .2)
       there j y (saw-full k) d f = λ a b g. f a b (under k g a)
       there j y (emptying k) d f = (f .0, up .else k (emptier j k (subst (λ (z : Stage). empties z k) (sym d) refl)) ∙ f .1)
       there j y (emptied k v) d f = (f .0, up .else k (emptier j k (subst (λ (z : Stage). empties z k) (sym d) refl)) ∙ f .1)
@@ -140,6 +138,7 @@ module _ (c n : ℕ) (p : Picture) (sg : ℕ → Stage) (vw lf : ℕ → View) (
         (λ _. subst (Knows c n q x) (sym es)
         (brings-up c n p t _ x (I .some) u (knew e (was .1) (omega arith) (was .0)), M .full t (omega arith) (was .0) (was .1) .1))
         (λ _. there (vw j) (sg j) (M .knows j));
+    untold = M .untold;
   }
     where
       q : Picture
@@ -166,6 +165,7 @@ module _ (c n : ℕ) (p : Picture) (sg : ℕ → Stage) (vw lf : ℕ → View) (
     free = λ j d e. newest j (cl .free j d e) _ (M .free j d e);
     full = λ j d e f. let g = M .full j d e f in let o = cl .full j d f in ((newest j o _ (g .0 .0), g .0 .1), g .1 ∙ ap some (sym (ul .else (slotOf c j) o)));
     knows = λ j. at-both uv us (Knows c n q) j (λ _. own) (λ m. there j m (vw j) (sg j) refl (M .knows j));
+    untold = M .untold;
   }
     where
       q : Picture
@@ -177,10 +177,10 @@ module _ (c n : ℕ) (p : Picture) (sg : ℕ → Stage) (vw lf : ℕ → View) (
       there : (j : ℕ) → j ≢ i → (y : View) (r : Stage) → sg j ≡ r → Knows c n p y r → Knows c n q y r
       there j m y aside d f = tt
       there j m y (saw-free k) d f = λ g h. newest k (cl .free k g h) y (f g h)
-      there j m y (filling k w) d f = let e = cl .filling j k m (subst (λ (v : Stage). fills v k) (sym d) refl) in (newest k e y (f .0), f .1)
+      there j m y (filling k w) d f = let e = cl .filling j k m (subst (λ (v : Stage). fills v k) (sym d) refl) in (newest k e y (f .0), f .1, f .2)
       there j m y (filled k) d f =
           let e = cl .filling j k m (subst (λ (v : Stage). fills v k) (sym d) refl) in
-          (newest k e y (f .0), f .1 ∙ ap some (sym (ul .else (slotOf c k) e)))
+          (newest k e y (f .0), f .1 ∙ ap some (sym (ul .else (slotOf c k) e)), f .2)
       there j m y (saw-full k) d f = λ g h l. let o = f g h l in (newest k (cl .full k h g) y (o .0), o .1)
       there j m y (emptying k) d f =
           let e = cl .emptying j k m (subst (λ (v : Stage). empties v k) (sym d) refl) in

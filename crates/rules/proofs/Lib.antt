@@ -30,5 +30,8 @@ pub mod Owed
 pub mod Recalled
 pub mod Unstuck
 pub mod Sound
+pub mod Shown
+pub mod Awaited
 pub mod Begun
 pub mod Holds
+pub mod Alike

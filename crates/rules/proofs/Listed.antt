@@ -1,133 +1,122 @@
--- The plain list beside the machine: it holds the weights put at the ranks from tail to head. Assumes nothing.
+-- The log beside the machine: where each thread's call stands, and the plain list, which has the weights put at the ranks from tail to head.
+-- Assumes nothing.
 use mathlib.Core.Path.{_≡_, refl, sym, ap, subst, _∙_}
-use mathlib.Core.List.{List, [], _∷_, _++_}
-use mathlib.Core.Option.{Option, none, some}
-use Prim.Native.Nat.{ℕ, _+_, _-_, _<_, _≤_}
-use native.Mathlib.Decide.{decLt}
-use native.Mathlib.Nat.{le-refl}
-use native.Mathlib.Numerals.{add-one}
+use mathlib.Core.List.{List, [], _∷_, _++_, append-assoc}
+use mathlib.Core.Logic.{_≢_}
+use mathlib.Core.Option.{some, bind}
+use Prim.Native.Nat.{ℕ, zero, suc, _+_, _<_}
 use native.Mathlib.Omega.{arith}
-use lib.ListN.{length, getD, drop, length-append, length-drop, List·getD-append}
-use lib.Seq.{getD-append-seam, getD-drop}
-use Rattle.rules.proofs.Updated.{Updated, at-each, at-both, changed}
-use Rattle.rules.specs.Notes.{Notes, Won, nothing, put, took, with, noted, begins, wins-head, wins-tail}
-use Rattle.rules.specs.Queue.{firstRanks}
+use borrow.Author.Tests.{lt-ltb}
+use lib.ListN.{length, getElem?, length-append}
+use Rattle.rules.proofs.Updated.{Updated, at-both}
+use Rattle.rules.specs.Log.{Call, Op, Seen, no-call, putting, taking, goes-in, comes-out, ins, outs}
+use Rattle.rules.specs.Queue.{Line, plain}
 use Rattle.rank.specs.Rank.{nextRank}
+use Rattle.state.specs.State.{place}
+use Rattle.state.specs.declared.Machine.{Machine}
 use Rattle.state.specs.declared.Place.{Place}
 use Rattle.state.specs.declared.Place.the-variants.{Idle, PutStatus, PutSwap, PutWrite, PutPublish, TakeStatus, TakeSwap, TakeRead, TakeFree}
-use Rattle.view.specs.declared.View.{View}
 
--- a call has taken the weight put at rank t
-pub record TookAt (weight : ℕ → Option ℕ) (w : Won) (t : ℕ) : Type 0 where
-  pub value : ℕ
-  pub won : w ≡ took value
-  pub from : weight t ≡ some value
+-- a thread's call, by its place
+abbrev pub Marked : Call → Place → Type 0
+Marked c Idle = c ≡ no-call
+Marked c (PutStatus h w) = c ≡ putting w 1 0
+Marked c (PutSwap h w) = c ≡ putting w 2 0
+Marked c (PutWrite h w) = c ≡ putting w 3 h
+Marked c (PutPublish h) = (w : ℕ) × (c ≡ putting w 4 h)
+Marked c (TakeStatus t) = c ≡ taking 1 0
+Marked c (TakeSwap t) = c ≡ taking 2 0
+Marked c (TakeRead t) = c ≡ taking 3 t
+Marked c (TakeFree t w) = c ≡ taking 4 t
 
--- what a call has won, by its place
-abbrev pub Marked : (ℕ → Option ℕ) → Won → Place → Type 0
-Marked f w Idle = Unit {0}
-Marked f w (PutStatus h x) = w ≡ nothing
-Marked f w (PutSwap h x) = w ≡ nothing
-Marked f w (PutWrite h x) = w ≡ put
-Marked f w (PutPublish h) = w ≡ put
-Marked f w (TakeStatus t) = w ≡ nothing
-Marked f w (TakeSwap t) = w ≡ nothing
-Marked f w (TakeRead t) = TookAt f w t
-Marked f w (TakeFree t x) = TookAt f w t
+-- with C slots, head, tail and the places by thread: the calls and the won swaps
+pub record Listed (c h t : ℕ) (at : ℕ → Place) (calls : ℕ → Call) (os : List Op) : Type 0 where
+  pub line : Line
+  pub is : plain c os ≡ some line
+  pub all : line .handed ++ line .inside ≡ ins os
+  pub handed : length (line .handed) ≡ t
+  pub put : length (ins os) ≡ h
+  pub out : outs os ≡ t
+  pub marks : (i : ℕ) → Marked (calls i) (at i)
 
--- with head, tail and the places by thread
-pub record Listed (h t : ℕ) (at : ℕ → Place) (nt : Notes) : Type 0 where
-  pub count : t + length (nt .line) ≡ h
-  pub holds : (j : ℕ) → j < length (nt .line) → nt .weight (t + j) ≡ some (getD (nt .line) j 0)
-  pub unput : (k : ℕ) → h ≤ k → nt .weight k ≡ none
-  pub ranks : nt .ranks ≡ firstRanks t
-  pub marks : (i : ℕ) → Marked (nt .weight) (nt .won i) (at i)
+-- what is inside has the ranks from tail to head
+pub reaches : {c h t : ℕ} {at : ℕ → Place} {calls : ℕ → Call} {os : List Op} (L : Listed c h t at calls os) → h ≡ t + length (L .line .inside)
+reaches L = omega (arith, L .handed, L .put, length-append (L .line .handed) (L .line .inside), ap length (L .all))
 
--- a weight that was put stays when one is put at a rank without
-put-stays : (f : ℕ → Option ℕ) (h w k x : ℕ) → f h ≡ none → f k ≡ some x → with f h (some w) k ≡ some x
-put-stays f h w k x e d = at-each (changed f h (some w)) (λ (o : Option ℕ). o ≡ some x) k (λ q. absurd (never q)) (λ _. d)
+abbrev pub ListedAt : ℕ → Machine → Seen → Type 0
+ListedAt c m n = Listed c (m .head .value) (m .tail .value) (place m) (n .calls) (n .ops)
+
+-- one more at the end
+pub one-more : (xs : List ℕ) (k w : ℕ) → length xs ≡ k → Updated (getElem? xs) k (some w) (getElem? (xs ++ (w ∷ [])))
+one-more xs k w e = subst (λ (y : ℕ). Updated (getElem? xs) y (some w) (getElem? (xs ++ (w ∷ [])))) e (record { here = here xs; else = else xs })
   where
-    never : k ≡ h → ⊥
-    never q =
-        let a : none ≡ some x = sym e ∙ ap f (sym q) ∙ d in
-        let z : _≡_ {A = ℕ} 0 1 = cc in omega arith
+    here : (ys : List ℕ) → getElem? (ys ++ (w ∷ [])) (length ys) ≡ some w
+    here [] = refl
+    here (y ∷ ys) = here ys
 
-module _ (h t : ℕ) (at : ℕ → Place) (nt : Notes) (L : Listed h t at nt) (i : ℕ) (q : Place) (at' : ℕ → Place) (u : Updated at i q at') where
+    else : (ys : List ℕ) (j : ℕ) → j ≢ length ys → getElem? (ys ++ (w ∷ [])) j ≡ getElem? ys j
+    else [] zero n = absurd (n refl)
+    else [] (suc j) n = refl
+    else (y ∷ ys) zero n = refl
+    else (y ∷ ys) (suc j) n = else ys j (λ e. n (ap suc e))
+
+-- what stands in front stays there
+pub in-front : (xs ys : List ℕ) (k : ℕ) → k < length xs → getElem? (xs ++ ys) k ≡ getElem? xs k
+in-front [] ys k l = absurd (omega arith)
+in-front (x ∷ xs) ys zero l = refl
+in-front (x ∷ xs) ys (suc k) l = in-front xs ys k (omega arith)
+
+-- and what stands behind comes after it
+pub behind : (xs ys : List ℕ) (t j : ℕ) → length xs ≡ t → getElem? (xs ++ ys) (t + j) ≡ getElem? ys j
+behind [] ys t j e = ap (getElem? ys) (omega arith)
+behind (x ∷ xs) ys t j e =
+    let d : t + j ≡ suc (length xs + j) = omega arith in
+    rw d (behind xs ys (length xs) j refl)
+
+pub in-list : (xs : List ℕ) (k w : ℕ) → getElem? xs k ≡ some w → k < length xs
+in-list [] k w e = absurd (let z : _≡_ {A = ℕ} 0 1 = cc in omega arith)
+in-list (x ∷ xs) zero w e = omega arith
+in-list (x ∷ xs) (suc k) w e = omega (arith, in-list xs k w e)
+
+module _ (c h t : ℕ) (at : ℕ → Place) (calls : ℕ → Call) (os : List Op) (L : Listed c h t at calls os) (i : ℕ) (q : Place) (at' : ℕ → Place)
+    (u : Updated at i q at') (k : Call) (calls' : ℕ → Call) (v : Updated calls i k calls') (f : Marked k q) where
+  marked : (j : ℕ) → Marked (calls' j) (at' j)
+  marked j = at-both v u Marked j (λ _. f) (λ _. L .marks j)
+
   -- nothing counts
-  pub moved : Marked (nt .weight) (nt .won i) q → Listed h t at' nt
-  moved f =
-      record {
-        count = L .count;
-        holds = L .holds;
-        unput = L .unput;
-        ranks = L .ranks;
-        marks = λ j. at-each u (Marked (nt .weight) (nt .won j)) j (λ e. subst (λ (k : ℕ). Marked (nt .weight) (nt .won k) q) (sym e) f) (λ _. L .marks j);
-      }
+  pub moved : Listed c h t at' calls' os
+  moved = record { line = L .line; is = L .is; all = L .all; handed = L .handed; put = L .put; out = L .out; marks = marked }
 
-  -- a call begins
-  pub begun : (v : View) → Marked (nt .weight) nothing q → Listed h t at' (noted i v begins nt)
-  begun v f =
-      record {
-        count = L .count;
-        holds = L .holds;
-        unput = L .unput;
-        ranks = L .ranks;
-        marks = λ j. at-both (changed (nt .won) i nothing) u (Marked (nt .weight)) j (λ _. f) (λ _. L .marks j);
-      }
-
-module _ (h t : ℕ) (at : ℕ → Place) (nt : Notes) (L : Listed h t at nt) (i : ℕ) (at' : ℕ → Place) where
   -- a put joins the list
-  pub joined : (w : ℕ) (v : View) → Updated at i (PutWrite h w) at' → Listed (nextRank h) t at' (noted i v (wins-head h w) nt)
-  unfolding nextRank
-  joined w v u =
+  pub joined : (w : ℕ) → h < t + c → Listed c (nextRank h) t at' calls' (goes-in w ∷ os)
+  unfolding nextRank plain ins outs bind
+  joined w l =
+      let a : length (L .line .handed) + length (L .line .inside) ≡ length (ins os) =
+      sym (length-append (L .line .handed) (L .line .inside)) ∙ ap length (L .all) in
       record {
-        count = rw (length-append (nt .line) (w ∷ [])) (omega (arith, L .count));
-        holds = λ j l. held j (rw (length-append (nt .line) (w ∷ [])) at l) (decLt j (length (nt .line)));
-        unput = λ k l. at-each (changed (nt .weight) h (some w)) (λ (o : Option ℕ). o ≡ none) k (λ e. absurd (omega arith)) (λ _. L .unput k (omega arith));
-        ranks = L .ranks;
-        marks = λ j. at-both (changed (nt .won) i put) u (Marked (with (nt .weight) h (some w))) j (λ _. refl) (λ _. there (nt .won j) (at j) (L .marks j));
+        line = record { inside = L .line .inside ++ (w ∷ []); handed = L .line .handed };
+        is = rw (L .is, lt-ltb (length (L .line .inside)) c (omega (arith, L .handed, L .put)));
+        all = sym (append-assoc (L .line .handed) (L .line .inside) (w ∷ [])) ∙ ap (λ (x : List ℕ). x ++ (w ∷ [])) (L .all);
+        handed = L .handed;
+        put = rw (length-append (ins os) (w ∷ [])) (omega (arith, L .put));
+        out = L .out;
+        marks = marked;
       }
-    where
-      stays : (k x : ℕ) → nt .weight k ≡ some x → with (nt .weight) h (some w) k ≡ some x
-      stays k x d = put-stays (nt .weight) h w k x (L .unput h (le-refl h)) d
-
-      held : (j : ℕ) → j < length (nt .line) + 1 → Dec (j < length (nt .line)) → with (nt .weight) h (some w) (t + j) ≡ some (getD (nt .line ++ (w ∷ [])) j 0)
-      held j l (yes p) = rw (List·getD-append (nt .line) (w ∷ []) 0 j p) (stays (t + j) _ (L .holds j p))
-      held j l (no p) =
-          let e : j ≡ length (nt .line) = omega arith in
-          let d : t + length (nt .line) ≡ h = L .count in
-          rw (e, d, getD-append-seam (nt .line) w [] 0) (changed (nt .weight) h (some w) .here)
-
-      there : (x : Won) (p : Place) → Marked (nt .weight) x p → Marked (with (nt .weight) h (some w)) x p
-      there x Idle f = tt
-      there x (PutStatus k y) f = f
-      there x (PutSwap k y) f = f
-      there x (PutWrite k y) f = f
-      there x (PutPublish k) f = f
-      there x (TakeStatus k) f = f
-      there x (TakeSwap k) f = f
-      there x (TakeRead k) f = record { value = f .value; won = f .won; from = stays k (f .value) (f .from) }
-      there x (TakeFree k y) f = record { value = f .value; won = f .won; from = stays k (f .value) (f .from) }
 
   -- a take takes from its front
-  pub taken : (v : View) → t < h → Updated at i (TakeRead t) at' → Listed h (nextRank t) at' (noted i v (wins-tail t) nt)
-  unfolding nextRank firstRanks
-  taken v l u =
-      record {
-        count = rw (length-drop 1 (nt .line)) (omega (arith, L .count));
-        holds = λ j p. later j (rw (length-drop 1 (nt .line)) at p);
-        unput = L .unput;
-        ranks = rw (add-one t) (ap (λ (rs : List ℕ). rs ++ (t ∷ [])) (L .ranks));
-        marks = λ j. at-both (changed (nt .won) i (took (getD (nt .line) 0 0))) u (Marked (nt .weight)) j
-            (λ _. record { value = getD (nt .line) 0 0; won = refl; from = front }) (λ _. L .marks j);
-      }
+  pub taken : t < h → Listed c h (nextRank t) at' calls' (comes-out ∷ os)
+  unfolding nextRank plain ins outs bind
+  taken l = go (L .line .inside) refl
     where
-      front : nt .weight t ≡ some (getD (nt .line) 0 0)
-      front =
-          let e : t + 0 ≡ t = omega arith in
-          rw e at (L .holds 0 (omega (arith, L .count)))
-
-      later : (j : ℕ) → j < length (nt .line) - 1 → nt .weight (t + 1 + j) ≡ some (getD (drop 1 (nt .line)) j 0)
-      later j p =
-          let e : t + (1 + j) ≡ t + 1 + j = omega arith in
-          rw (getD-drop 1 (nt .line) j 0, ← e) (L .holds (1 + j) (omega arith))
+      go : (ws : List ℕ) → L .line .inside ≡ ws → Listed c h (nextRank t) at' calls' (comes-out ∷ os)
+      go [] e = absurd (omega (arith, reaches L, ap length e))
+      go (w ∷ ws) e =
+          record {
+            line = record { inside = ws; handed = L .line .handed ++ (w ∷ []) };
+            is = rw (L .is, e);
+            all = append-assoc (L .line .handed) (w ∷ []) ws ∙ ap (λ (x : List ℕ). L .line .handed ++ x) (sym e) ∙ L .all;
+            handed = rw (length-append (L .line .handed) (w ∷ [])) (omega (arith, L .handed));
+            put = L .put;
+            out = omega (arith, L .out);
+            marks = marked;
+          }

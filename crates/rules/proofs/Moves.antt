@@ -1,5 +1,5 @@
 -- The moves of a machine: one field for each, and the one proof that unfolds the step. Assumes nothing.
-use mathlib.Core.Path.{_≡_, refl, sym, subst, _∙_}
+use mathlib.Core.Path.{_≡_, refl, _∙_}
 use mathlib.Core.Bool.{Bool, true, false, not}
 use mathlib.Core.List.{List}
 use Prim.Native.Nat.{ℕ, zero, suc, _+_, _-_, _<_, _≤_}
@@ -19,7 +19,7 @@ use Rattle.rules.specs.declared.Done.{Done}
 use Rattle.rules.proofs.Events.{Reading, Writing, Looking, Storing, is-reading, is-writing, is-looking, is-storing}
 use Rattle.rules.proofs.Ranks.{slot-in}
 use Rattle.rank.specs.Rank.{nextRank, freeStatus, fullStatus, lapped}
-use Rattle.refusal.proofs.Passed.{Passed, passed, among-some}
+use Rattle.refusal.proofs.Passed.{Passed, Current, passed, among-some}
 use Rattle.standing.proofs.Bounds.{Bounds, bounds}
 use Rattle.standing.specs.Stands.{stands}
 use Rattle.state.proofs.Changed.{Room}
@@ -42,36 +42,37 @@ use Rattle.writes.specs.declared.Found.{Found}
 use Rattle.writes.specs.declared.Found.the-variants.{Missing, Present}
 use Rattle.writes.specs.declared.Write.{Write}
 
--- What holds after each taken step of thread i: of its place before, its answer, and the machine and list that it leaves.
-pub record Moves (m : Machine) (ws : List Write) (i : ℕ) (P : Place → Answer → Machine → List Write → Type 0) : Type 0 where
-  pub gets : (c t v : ℕ) (n : Machine) → place m i ≡ Idle → (1 ≤ c) × (c ≤ m .shape .plain) → Reading m ws i c t v Idle n → P Idle (Value v) n ws
+-- What holds after each taken step of thread i: of its verb, its answer, and the machine and list that it leaves.
+pub record Moves (m : Machine) (ws : List Write) (i : ℕ) (P : Verb → Answer → Machine → List Write → Type 0) : Type 0 where
+  pub gets : (c t v : ℕ) (n : Machine) → place m i ≡ Idle → (1 ≤ c) × (c ≤ m .shape .plain) → Reading m ws i c t v Idle n
+      → P (Get c t) (Value v) n ws
   pub sets : (c t v : ℕ) (n : Machine) (us : List Write) → place m i ≡ Idle → (1 ≤ c) × (c ≤ m .shape .plain) → Writing m ws i c t v Idle n us
-      → P Idle Ok n us
-  pub loads : (f : ℕ) (n : Machine) → place m i ≡ Idle → Looking m i (Flag f) Idle n → P Idle (Value (atomicAt m (Flag f) .value)) n ws
-  pub stores : (f x : ℕ) (n : Machine) → place m i ≡ Idle → Storing m i (Flag f) x Idle n → P Idle Ok n ws
-  pub swap-wins : (f x : ℕ) (n : Machine) → place m i ≡ Idle → Storing m i (Flag f) x Idle n → P Idle Yes n ws
-  pub swap-loses : (f : ℕ) (n : Machine) → place m i ≡ Idle → Looking m i (Flag f) Idle n → P Idle No n ws
-  pub put-begins : (w : ℕ) (n : Machine) → place m i ≡ Idle → Looking m i Head (PutStatus (m .head .value) w) n → P Idle Dash n ws
+      → P (Set c v t) Ok n us
+  pub loads : (b f : ℕ) (n : Machine) → place m i ≡ Idle → Looking m i (Flag f) Idle n → P (Load b) (Value (atomicAt m (Flag f) .value)) n ws
+  pub stores : (b f x : ℕ) (n : Machine) → place m i ≡ Idle → Storing m i (Flag f) x Idle n → P (Store b x) Ok n ws
+  pub swap-wins : (b f u x : ℕ) (n : Machine) → place m i ≡ Idle → Storing m i (Flag f) x Idle n → P (Swap b u x) Yes n ws
+  pub swap-loses : (b f u x : ℕ) (n : Machine) → place m i ≡ Idle → Looking m i (Flag f) Idle n → P (Swap b u x) No n ws
+  pub put-begins : (w : ℕ) (n : Machine) → place m i ≡ Idle → Looking m i Head (PutStatus (m .head .value) w) n → P (Put w) Dash n ws
   pub put-sees : (h w : ℕ) (n : Machine) → place m i ≡ PutStatus h w → atomicAt m (statusName m h) .value ≡ freeStatus h
-      → Looking m i (statusName m h) (PutSwap h w) n → P (PutStatus h w) Dash n ws
-  pub put-stops : (h w : ℕ) (n : Machine) → place m i ≡ PutStatus h w → Looking m i (statusName m h) Idle n → P (PutStatus h w) No n ws
+      → Looking m i (statusName m h) (PutSwap h w) n → P Go Dash n ws
+  pub put-stops : (h w : ℕ) (n : Machine) → place m i ≡ PutStatus h w → Looking m i (statusName m h) Idle n → P Go No n ws
   pub put-wins : (h w : ℕ) (n : Machine) → place m i ≡ PutSwap h w → m .head .value ≡ h → Storing m i Head (nextRank h) (PutWrite h w) n
-      → P (PutSwap h w) Dash n ws
-  pub put-loses : (h w : ℕ) (n : Machine) → place m i ≡ PutSwap h w → Looking m i Head Idle n → P (PutSwap h w) No n ws
+      → P Go Dash n ws
+  pub put-loses : (h w : ℕ) (n : Machine) → place m i ≡ PutSwap h w → Looking m i Head Idle n → P Go No n ws
   pub put-writes : (h w t : ℕ) (n : Machine) (us : List Write) → place m i ≡ PutWrite h w
-      → Writing m ws i (slotCell (m .shape) h) t w (PutPublish h) n us → P (PutWrite h w) Dash n us
-  pub put-ends : (h : ℕ) (n : Machine) → place m i ≡ PutPublish h → Storing m i (statusName m h) (fullStatus h) Idle n → P (PutPublish h) Yes n ws
-  pub take-begins : (n : Machine) → place m i ≡ Idle → Looking m i Tail (TakeStatus (m .tail .value)) n → P Idle Dash n ws
+      → Writing m ws i (slotCell (m .shape) h) t w (PutPublish h) n us → P (GoAt t) Dash n us
+  pub put-ends : (h : ℕ) (n : Machine) → place m i ≡ PutPublish h → Storing m i (statusName m h) (fullStatus h) Idle n → P Go Yes n ws
+  pub take-begins : (n : Machine) → place m i ≡ Idle → Looking m i Tail (TakeStatus (m .tail .value)) n → P Take Dash n ws
   pub take-sees : (t : ℕ) (n : Machine) → place m i ≡ TakeStatus t → atomicAt m (statusName m t) .value ≡ fullStatus t
-      → Looking m i (statusName m t) (TakeSwap t) n → P (TakeStatus t) Dash n ws
-  pub take-stops : (t : ℕ) (n : Machine) → place m i ≡ TakeStatus t → Looking m i (statusName m t) Idle n → P (TakeStatus t) None n ws
+      → Looking m i (statusName m t) (TakeSwap t) n → P Go Dash n ws
+  pub take-stops : (t : ℕ) (n : Machine) → place m i ≡ TakeStatus t → Looking m i (statusName m t) Idle n → P Go None n ws
   pub take-wins : (t : ℕ) (n : Machine) → place m i ≡ TakeSwap t → m .tail .value ≡ t → Storing m i Tail (nextRank t) (TakeRead t) n
-      → P (TakeSwap t) Dash n ws
-  pub take-loses : (t : ℕ) (n : Machine) → place m i ≡ TakeSwap t → Looking m i Tail Idle n → P (TakeSwap t) None n ws
+      → P Go Dash n ws
+  pub take-loses : (t : ℕ) (n : Machine) → place m i ≡ TakeSwap t → Looking m i Tail Idle n → P Go None n ws
   pub take-reads : (t s w : ℕ) (n : Machine) → place m i ≡ TakeRead t → Reading m ws i (slotCell (m .shape) t) s w (TakeFree t w) n
-      → P (TakeRead t) Dash n ws
+      → P (GoAt s) Dash n ws
   pub take-ends : (t w : ℕ) (n : Machine) → place m i ≡ TakeFree t w
-      → Storing m i (statusName m t) (freeStatus (lapped (m .shape .slots) t)) Idle n → P (TakeFree t w) (Got w) n ws
+      → Storing m i (statusName m t) (freeStatus (lapped (m .shape .slots) t)) Idle n → P Go (Got w) n ws
 
 -- what a plain access found whose test of refusal 13 does not hold
 pub shown : (f : Found) → not (present f) ≡ false → f ≡ Present (valueOf f)
@@ -94,43 +95,43 @@ idle (TakeSwap t) e = absurd (omega arith)
 idle (TakeRead t) e = absurd (omega arith)
 idle (TakeFree t w) e = absurd (omega arith)
 
-module _ (m : Machine) (ws : List Write) (i : ℕ) (P : Place → Answer → Machine → List Write → Type 0) (W : Whole m) (B : Bounds (m .shape))
+module _ (m : Machine) (ws : List Write) (i : ℕ) (P : Verb → Answer → Machine → List Write → Type 0) (W : Whole m) (B : Bounds (m .shape))
     (l : i < 8) (k : ℕ) (A : Moves m ws i P) where
-  abbrev Left : Place → Done → List Write → Type 0
-  Left p d us = P p (d .answer) (withSteps (d .machine) k) us
+  abbrev Left : Verb → Done → List Write → Type 0
+  Left v d us = P v (d .answer) (withSteps (d .machine) k) us
 
   -- second of a call
-  looked : (r due : ℕ) (p q : Place) (lost : Answer)
-      → ((n : Machine) → atomicAt m (statusName m r) .value ≡ due → Looking m i (statusName m r) q n → P p Dash n ws)
-      → ((n : Machine) → Looking m i (statusName m r) Idle n → P p lost n ws)
-      → Left p (looks m i r due q lost) ws
+  looked : (r due : ℕ) (q : Place) (lost : Answer)
+      → ((n : Machine) → atomicAt m (statusName m r) .value ≡ due → Looking m i (statusName m r) q n → P Go Dash n ws)
+      → ((n : Machine) → Looking m i (statusName m r) Idle n → P Go lost n ws)
+      → Left Go (looks m i r due q lost) ws
   unfolding looks goesOn
-  looked r due p q lost f g = go (eqb (atomicAt m (statusName m r) .value) due) refl
+  looked r due q lost f g = go (eqb (atomicAt m (statusName m r) .value) due) refl
     where
-      go : (z : Bool) → eqb (atomicAt m (statusName m r) .value) due ≡ z → Left p (goesOn z (readAtomic m i (statusName m r)) i q lost) ws
+      go : (z : Bool) → eqb (atomicAt m (statusName m r) .value) due ≡ z → Left Go (goesOn z (readAtomic m i (statusName m r)) i q lost) ws
       go true e = f _ (eqb-true _ _ e) (is-looking m i W l q k (statusName m r))
       go false e = g _ (is-looking m i W l Idle k (statusName m r))
 
   -- third of a call
-  swapped : (a : Name) (r : ℕ) (p q : Place) (lost : Answer) → Room a
-      → ((n : Machine) → atomicAt m a .value ≡ r → Storing m i a (nextRank r) q n → P p Dash n ws)
-      → ((n : Machine) → Looking m i a Idle n → P p lost n ws)
-      → Left p (swaps m i a r q lost) ws
+  swapped : (a : Name) (r : ℕ) (q : Place) (lost : Answer) → Room a
+      → ((n : Machine) → atomicAt m a .value ≡ r → Storing m i a (nextRank r) q n → P Go Dash n ws)
+      → ((n : Machine) → Looking m i a Idle n → P Go lost n ws)
+      → Left Go (swaps m i a r q lost) ws
   unfolding swaps goesOn swappedOf
-  swapped a r p q lost room f g = go (eqb (atomicAt m a .value) r) refl
+  swapped a r q lost room f g = go (eqb (atomicAt m a .value) r) refl
     where
-      go : (z : Bool) → eqb (atomicAt m a .value) r ≡ z → Left p (wonTo (swapIf z m i a (nextRank r)) i q lost) ws
+      go : (z : Bool) → eqb (atomicAt m a .value) r ≡ z → Left Go (wonTo (swapIf z m i a (nextRank r)) i q lost) ws
       go true e = f _ (eqb-true _ _ e) (is-storing m i W l q k a (nextRank r) room)
       go false e = g _ (is-looking m i W l Idle k a)
 
   -- a swap of a flag
-  exchanged : (f u x : ℕ) → f < 8 → place m i ≡ Idle → Left Idle (wonAnswer (swappedOf m i (Flag f) u x) i) ws
+  exchanged : (b f u x : ℕ) → f < 8 → place m i ≡ Idle → Left (Swap b u x) (wonAnswer (swappedOf m i (Flag f) u x) i) ws
   unfolding swappedOf
-  exchanged f u x h e = go (eqb (atomicAt m (Flag f) .value) u)
+  exchanged b f u x h e = go (eqb (atomicAt m (Flag f) .value) u)
     where
-      go : (z : Bool) → Left Idle (wonAnswer (swapIf z m i (Flag f) x) i) ws
-      go true = A .swap-wins f x _ e (is-storing m i W l Idle k (Flag f) x h)
-      go false = A .swap-loses f _ e (is-looking m i W l Idle k (Flag f))
+      go : (z : Bool) → Left (Swap b u x) (wonAnswer (swapIf z m i (Flag f) x) i) ws
+      go true = A .swap-wins b f u x _ e (is-storing m i W l Idle k (Flag f) x h)
+      go false = A .swap-loses b f u x _ e (is-looking m i W l Idle k (Flag f))
 
   flagged : (f : ℕ) → among f (m .shape .flags) ≡ true → f - 1 < 8
   flagged f e = omega (arith, among-some _ _ e, B .flags)
@@ -150,31 +151,28 @@ module _ (m : Machine) (ws : List Write) (i : ℕ) (P : Place → Answer → Mac
   unfolding foundBy
   filed c t v q r o f = is-writing m i W l q k ws c t v (leb-false _ _ (neither _ _ r .1)) (leb-false _ _ o) (hidden _ f)
 
-  at-idle : (p : Place) (a : Answer) (n : Machine) (us : List Write) → 0 ≡ dueAt p → P Idle a n us → P p a n us
-  at-idle p a n us e h = subst (λ (x : Place). P x a n us) (sym (idle p e)) h
-
   -- a verb that no test refuses, of a thread at place p
   by-verb : (v : Verb) (p : Place) → place m i ≡ p → asks v ≡ dueAt p → named (m .shape) v ≡ true
       → full (accessOf (m .shape) v p) (m .held) (length ws) ≡ false → outdated (accessOf (m .shape) v p) (row m i) ≡ false
       → amiss (accessOf (m .shape) v p) (foundBy m ws (accessOf (m .shape) v p)) ≡ false
-      → Left p (acted (accessed m i (accessOf (m .shape) v p)) i v (valueOf (foundBy m ws (accessOf (m .shape) v p))))
+      → Left v (acted (accessed m i (accessOf (m .shape) v p)) i v (valueOf (foundBy m ws (accessOf (m .shape) v p))))
       (recorded (accessOf (m .shape) v p) (m .held) ws)
   unfolding acted accessed recorded resumed closes atomicAt
-  by-verb (Get c t) p e d n f o a = at-idle p _ _ _ d (A .gets c t _ _ (e ∙ idle p d) (among-some _ _ n) (fetched c t Idle o a))
-  by-verb (Set c v t) p e d n f o a = at-idle p _ _ _ d (A .sets c t v _ _ (e ∙ idle p d) (among-some _ _ n) (filed c t v Idle f o a))
-  by-verb (Load x) p e d n f o a = at-idle p _ _ _ d (A .loads (x - 1) _ (e ∙ idle p d) (is-looking m i W l Idle k (Flag (x - 1))))
+  by-verb (Get c t) p e d n f o a = A .gets c t _ _ (e ∙ idle p d) (among-some _ _ n) (fetched c t Idle o a)
+  by-verb (Set c v t) p e d n f o a = A .sets c t v _ _ (e ∙ idle p d) (among-some _ _ n) (filed c t v Idle f o a)
+  by-verb (Load x) p e d n f o a = A .loads x (x - 1) _ (e ∙ idle p d) (is-looking m i W l Idle k (Flag (x - 1)))
   by-verb (Store x v) p e d n f o a =
-      at-idle p _ _ _ d (A .stores (x - 1) v _ (e ∙ idle p d) (is-storing m i W l Idle k (Flag (x - 1)) v (flagged x n)))
-  by-verb (Swap x u v) p e d n f o a = at-idle p _ _ _ d (exchanged (x - 1) u v (flagged x n) (e ∙ idle p d))
-  by-verb (Put w) p e d n f o a = at-idle p _ _ _ d (A .put-begins w _ (e ∙ idle p d) (is-looking m i W l _ k Head))
-  by-verb Take p e d n f o a = at-idle p _ _ _ d (A .take-begins _ (e ∙ idle p d) (is-looking m i W l _ k Tail))
+      A .stores x (x - 1) v _ (e ∙ idle p d) (is-storing m i W l Idle k (Flag (x - 1)) v (flagged x n))
+  by-verb (Swap x u v) p e d n f o a = exchanged x (x - 1) u v (flagged x n) (e ∙ idle p d)
+  by-verb (Put w) p e d n f o a = A .put-begins w _ (e ∙ idle p d) (is-looking m i W l _ k Head)
+  by-verb Take p e d n f o a = A .take-begins _ (e ∙ idle p d) (is-looking m i W l _ k Tail)
   by-verb Go Idle e d n f o a = absurd (omega arith)
-  by-verb Go (PutStatus h w) e d n f o a = rw e (looked h (freeStatus h) (PutStatus h w) (PutSwap h w) No (λ x. A .put-sees h w x e) (λ x. A .put-stops h w x e))
-  by-verb Go (PutSwap h w) e d n f o a = rw e (swapped Head h (PutSwap h w) (PutWrite h w) No tt (λ x. A .put-wins h w x e) (λ x. A .put-loses h w x e))
+  by-verb Go (PutStatus h w) e d n f o a = rw e (looked h (freeStatus h) (PutSwap h w) No (λ x. A .put-sees h w x e) (λ x. A .put-stops h w x e))
+  by-verb Go (PutSwap h w) e d n f o a = rw e (swapped Head h (PutWrite h w) No tt (λ x. A .put-wins h w x e) (λ x. A .put-loses h w x e))
   by-verb Go (PutWrite h w) e d n f o a = absurd (omega arith)
   by-verb Go (PutPublish h) e d n f o a = rw e (A .put-ends h _ e (is-storing m i W l Idle k (statusName m h) (fullStatus h) (slotted h)))
-  by-verb Go (TakeStatus t) e d n f o a = rw e (looked t (fullStatus t) (TakeStatus t) (TakeSwap t) None (λ x. A .take-sees t x e) (λ x. A .take-stops t x e))
-  by-verb Go (TakeSwap t) e d n f o a = rw e (swapped Tail t (TakeSwap t) (TakeRead t) None tt (λ x. A .take-wins t x e) (λ x. A .take-loses t x e))
+  by-verb Go (TakeStatus t) e d n f o a = rw e (looked t (fullStatus t) (TakeSwap t) None (λ x. A .take-sees t x e) (λ x. A .take-stops t x e))
+  by-verb Go (TakeSwap t) e d n f o a = rw e (swapped Tail t (TakeRead t) None tt (λ x. A .take-wins t x e) (λ x. A .take-loses t x e))
   by-verb Go (TakeRead t) e d n f o a = absurd (omega arith)
   by-verb Go (TakeFree t w) e d n f o a =
       rw e (A .take-ends t w _ e (is-storing m i W l Idle k (statusName m t) (freeStatus (lapped (m .shape .slots) t)) (slotted t)))
@@ -191,27 +189,27 @@ module _ (m : Machine) (ws : List Write) (i : ℕ) (P : Place → Answer → Mac
   by-verb (GoAt z) (TakeFree t w) e d n f o a = absurd (omega arith)
 
 -- what a step leaves: nothing new if it is refused, else what its move says
-pub by-moves : (m : Machine) (ws : List Write) (s : Step) (P : Place → Answer → Machine → List Write → Type 0) → Whole m
-    → ((k : ℕ) → P (place m (s .thread - 1)) (Refused k) m ws)
+pub by-moves : (m : Machine) (ws : List Write) (s : Step) (P : Verb → Answer → Machine → List Write → Type 0) → Whole m
+    → ((k : ℕ) → P (s .verb) (Refused (suc k)) m ws)
     → (s .thread - 1 < m .shape .threads → Moves m ws (s .thread - 1) P)
-    → P (place m (s .thread - 1)) (stepOf m ws s .done .answer) (stepOf m ws s .done .machine) (stepOf m ws s .writes)
+    → P (s .verb) (stepOf m ws s .done .answer) (stepOf m ws s .done .machine) (stepOf m ws s .writes)
 unfolding stepOf decidedOf takenBy recorded refusalOf
 by-moves m ws s P W still A = go (refusalOf m ws s) refl
   where
     i : ℕ
     i = s .thread - 1
 
-    taken : Passed (stands m ws) m (length ws) s (asked m s) (foundBy m ws (asked m s))
-        → P (place m i) (takenBy m s (asked m s) (foundBy m ws (asked m s)) .answer) (takenBy m s (asked m s) (foundBy m ws (asked m s)) .machine)
+    taken : Passed (stands m ws) m (length ws) s (asked m s) (foundBy m ws (asked m s)) × Current (stands m ws) m (length ws) s (asked m s) (foundBy m ws (asked m s))
+        → P (s .verb) (takenBy m s (asked m s) (foundBy m ws (asked m s)) .answer) (takenBy m s (asked m s) (foundBy m ws (asked m s)) .machine)
         (recorded (asked m s) (m .held) ws)
-    taken t =
+    taken (t, c) =
         let B = bounds m ws (t .stands) in
         by-verb m ws i P W B (omega (arith, t .thread, B .threads)) (m .steps + 1) (A (omega (arith, t .thread))) (s .verb) (place m i) refl
-        (t .due) (t .names) (t .room) (t .current) (t .fits)
+        (t .due) (t .names) (t .room) (c .0) (c .1)
 
     go : (r : ℕ) → refusalOf m ws s ≡ r
-        → P (place m i) (decidedBy r m s (asked m s) (foundBy m ws (asked m s)) .done .answer)
+        → P (s .verb) (decidedBy r m s (asked m s) (foundBy m ws (asked m s)) .done .answer)
         (decidedBy r m s (asked m s) (foundBy m ws (asked m s)) .done .machine)
         (recorded (decidedBy r m s (asked m s) (foundBy m ws (asked m s)) .wrote) (m .held) ws)
     go zero e = taken (passed _ _ _ _ _ _ e)
-    go (suc r) e = still (suc r)
+    go (suc r) e = still r

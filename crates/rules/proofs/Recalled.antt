@@ -190,16 +190,16 @@ module _ (m : Machine) (ws : List Write) (i : ℕ) (W : Whole m) (B : Bounds (m 
       above y p (yes e) = rw (ap (nth new) e ∙ last) (omega (arith, x .above))
       above y p (no e) = rw (before y e) (K .positive y (omega arith))
 
-  pub recall-moves : Moves m ws i (λ p a o us. Recalled (cellsOf m) (firstOf m) o us)
+  pub recall-moves : Moves m ws i (λ v a o us. Recalled (cellsOf m) (firstOf m) o us)
   unfolding cellsOf slotCell
   recall-moves =
       record {
         gets = λ b t v o e _ x. reads b t v Idle o x;
         sets = λ b t v o us e r x. writes b t v Idle o us (r .0, omega (arith, r .1)) x;
-        loads = λ f o e x. looks (Flag f) Idle o x;
-        stores = λ f v o e x. stores (Flag f) v Idle o x;
-        swap-wins = λ f v o e x. stores (Flag f) v Idle o x;
-        swap-loses = λ f o e x. looks (Flag f) Idle o x;
+        loads = λ b f o e x. looks (Flag f) Idle o x;
+        stores = λ b f v o e x. stores (Flag f) v Idle o x;
+        swap-wins = λ b f u v o e x. stores (Flag f) v Idle o x;
+        swap-loses = λ b f u v o e x. looks (Flag f) Idle o x;
         put-begins = λ w o e x. looks Head (PutStatus (m .head .value) w) o x;
         put-sees = λ h w o e d x. looks (statusName m h) (PutSwap h w) o x;
         put-stops = λ h w o e x. looks (statusName m h) Idle o x;

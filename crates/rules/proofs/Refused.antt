@@ -5,7 +5,8 @@ use mathlib.Core.List.{List}
 use Prim.Native.Nat.{ℕ, zero, suc, _+_, _-_, _<_}
 use native.Mathlib.Omega.{arith}
 use Rattle.atomic.specs.Atomic.{swappedOf}
-use Rattle.rules.specs.Kept.{Numbered, RefusedKeeps, TakenCounts}
+use Rattle.refusal.proofs.Passed.{number-in}
+use Rattle.rules.specs.Kept.{Numbered, StepNumbered, RefusedKeeps, TakenCounts}
 use Rattle.rules.specs.Calls.{goesOn, looks, swaps, closes, resumed, yesIf, acted}
 use Rattle.rules.specs.Step.{takenBy, decidedBy, refusalOf, decidedOf, stepOf}
 use Rattle.state.specs.State.{place}
@@ -62,7 +63,7 @@ acted-taken m i Go v = resumed-taken m i (place m i) v
 acted-taken m i (GoAt t) v = resumed-taken m i (place m i) v
 
 -- what is decided by a number is answered with it
-decided-numbered : (r : ℕ) (m : Machine) (s : Step) (a : Access) (f : Found) → numberOf (decidedBy r m s a f .done .answer) ≡ r
+pub decided-numbered : (r : ℕ) (m : Machine) (s : Step) (a : Access) (f : Found) → numberOf (decidedBy r m s a f .done .answer) ≡ r
 unfolding takenBy
 decided-numbered zero m s a f = acted-taken _ _ (s .verb) _
 decided-numbered (suc r) m s a f = refl
@@ -72,8 +73,13 @@ pub numbered : Numbered
 unfolding stepOf decidedOf
 numbered m ws s = decided-numbered (refusalOf m ws s) m s _ _
 
+-- A step's number is 0, or one of 6 to 14.
+pub step-numbered : StepNumbered
+unfolding refusalOf
+step-numbered m ws s = rw (numbered m ws s) (number-in _ _ _ _ _ _)
+
 -- what is decided by a number above 0
-decided-keeps : (r : ℕ) (m : Machine) (ws : List Write) (s : Step) (a : Access) (f : Found) → 0 < r
+pub decided-keeps : (r : ℕ) (m : Machine) (ws : List Write) (s : Step) (a : Access) (f : Found) → 0 < r
     → (decidedBy r m s a f .done .machine ≡ m) × (recorded (decidedBy r m s a f .wrote) (m .held) ws ≡ ws)
 unfolding recorded
 decided-keeps zero m ws s a f h = absurd (omega arith)

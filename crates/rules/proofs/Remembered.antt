@@ -6,6 +6,7 @@ use mathlib.Core.Option.{some}
 use Prim.Native.Nat.{ℕ, suc, _+_, _-_, _≤_}
 use native.Mathlib.Nat.{le-of-eq}
 use native.Mathlib.Omega.{arith}
+use lib.ListN.{length, getElem?}
 use Rattle.atomic.specs.Atomic.{met, told}
 use Rattle.rules.specs.Access.{slotCell}
 use Rattle.rules.specs.Calls.{statusName}
@@ -16,12 +17,13 @@ use Rattle.rules.proofs.Handed.{put-ended, take-ended, fill-clear}
 use Rattle.rules.proofs.Histories.{newest-more, newer-else, newer-here, found-under, newest-shown}
 use Rattle.rules.proofs.Joins.{met-own, met-cell, told-own, told-met}
 use Rattle.rules.proofs.Learnt.{Picture, Knows, Memory, newest-up, brings-up, look, head-won, tail-won, slot-written}
+use Rattle.rules.proofs.Listed.{Marked, ListedAt, one-more}
 use Rattle.rules.proofs.Moves.{Moves}
 use Rattle.rules.proofs.Ranks.{slot-in}
 use Rattle.rules.proofs.Ring.{aside, filling, filled, emptying, fills}
 use Rattle.rules.proofs.Ringed.{stage, stages, status, Ringed}
 use Rattle.rules.proofs.Updated.{mapped, changed}
-use Rattle.rules.specs.Notes.{Notes, deed, noted}
+use Rattle.rules.specs.Log.{Seen, putting, taking, ins, under, heard}
 use Rattle.rules.specs.Queue.{Covers}
 use Rattle.rank.specs.Rank.{slotOf, nextRank, freeStatus, fullStatus, lapped}
 use Rattle.standing.proofs.Bounds.{Bounds}
@@ -47,7 +49,7 @@ abbrev pub newestOf : ℕ → (ℕ → ℕ) → List Write → ℕ → ℕ → N
 newestOf n first ws held z = newest (first (n + 1 + z - 1)) ws (n + 1 + z) held
 
 -- the picture by its parts, and that of a machine
-abbrev pub pictureOf : ℕ → (ℕ → ℕ) → List Write → ℕ → ℕ → ℕ → (ℕ → ℕ) → Notes → Picture
+abbrev pub pictureOf : ℕ → (ℕ → ℕ) → List Write → ℕ → ℕ → ℕ → (ℕ → ℕ) → Seen → Picture
 pictureOf n first ws held h t st nt =
     record {
       head = h;
@@ -55,11 +57,11 @@ pictureOf n first ws held h t st nt =
       st = st;
       top = λ z. newestOf n first ws held z .stamp;
       val = λ z. newestOf n first ws held z .value;
-      put = nt .weight;
+      put = getElem? (ins (nt .ops));
       published = nt .published;
     }
 
-abbrev pub picture : ℕ → (ℕ → ℕ) → Machine → List Write → Notes → Picture
+abbrev pub picture : ℕ → (ℕ → ℕ) → Machine → List Write → Seen → Picture
 picture n first m ws nt = pictureOf n first ws (m .held) (m .head .value) (m .tail .value) (status m) nt
 
 -- the view that the status of a slot has
@@ -67,11 +69,11 @@ abbrev pub leftBy : Machine → ℕ → View
 leftBy m z = statusAt m z .view
 
 -- the memory of a machine with c slots, n plain cells and the given first values
-abbrev pub Remembered : ℕ → ℕ → (ℕ → ℕ) → Machine → List Write → Notes → Type 0
+abbrev pub Remembered : ℕ → ℕ → (ℕ → ℕ) → Machine → List Write → Seen → Type 0
 Remembered c n first m ws nt = Memory c n (picture n first m ws nt) (stages m) (row m) (leftBy m)
 
 -- the same over what a machine is known to have
-memory-as : (c n : ℕ) (first : ℕ → ℕ) (o : Machine) (ws : List Write) (nt : Notes) (held h t : ℕ) (cells : ℕ → Atomic)
+memory-as : (c n : ℕ) (first : ℕ → ℕ) (o : Machine) (ws : List Write) (nt : Seen) (held h t : ℕ) (cells : ℕ → Atomic)
     → o .held ≡ held → o .head .value ≡ h → o .tail .value ≡ t → ((z : ℕ) → statusAt o z ≡ cells z)
     → Memory c n (pictureOf n first ws held h t (λ z. cells z .value) nt) (stages o) (row o) (λ z. cells z .view) → Remembered c n first o ws nt
 memory-as c n first o ws nt held h t cells e f g s r =
@@ -80,7 +82,7 @@ memory-as c n first o ws nt held h t cells e f g s r =
     (subst (λ (x : ℕ). Memory c n (pictureOf n first ws held h x (status o) nt) (stages o) (row o) (leftBy o)) (sym g)
     (subst (λ (x : ℕ → Atomic). Memory c n (pictureOf n first ws held h t (λ z. x z .value) nt) (stages o) (row o) (λ z. x z .view)) (sym (fun-ext s)) r)))
 
-module _ (m : Machine) (ws : List Write) (nt : Notes) (i : ℕ) (W : Whole m) (B : Bounds (m .shape)) (R : Ringed (m .shape .slots) m)
+module _ (m : Machine) (ws : List Write) (nt : Seen) (i : ℕ) (W : Whole m) (B : Bounds (m .shape)) (R : Ringed (m .shape .slots) m)
     (M : Remembered (m .shape .slots) (m .shape .plain) (firstOf m) m ws nt) where
   abbrev c : ℕ
   c = m .shape .slots
@@ -93,7 +95,7 @@ module _ (m : Machine) (ws : List Write) (nt : Notes) (i : ℕ) (W : Whole m) (B
   pic = picture pl (firstOf m) m ws nt
 
   -- the memory after it
-  abbrev Now : Machine → List Write → Notes → Type 0
+  abbrev Now : Machine → List Write → Seen → Type 0
   Now o us nt' = Remembered c pl (firstOf m) o us nt'
 
   -- the newest write of a slot, before and after one record more
@@ -185,7 +187,7 @@ module _ (m : Machine) (ws : List Write) (nt : Notes) (i : ℕ) (W : Whole m) (B
       (record { here = ap (λ (y : Newest). y .stamp) here; else = λ j d. ap (λ (y : Newest). y .stamp) (far j d) })
       (record { here = ap (λ (y : Newest). y .value) here; else = λ j d. ap (λ (y : Newest). y .value) (far j d) })
       (fill-clear c pic (stages m) R i h (subst (λ (y : Place). fills (stage y) h) (sym e) refl))
-      (le-of-eq (ap (λ (y : Newest). y .stamp) here ∙ sym seen), knew-at (PutWrite h w) e .1 ∙ ap some (sym (ap (λ (y : Newest). y .value) here))))
+      (le-of-eq (ap (λ (y : Newest). y .stamp) here ∙ sym seen), knew-at (PutWrite h w) e .1 ∙ ap some (sym (ap (λ (y : Newest). y .value) here)), knew-at (PutWrite h w) e .2))
     where
       z : ℕ
       z = slotOf c h
@@ -205,12 +207,12 @@ module _ (m : Machine) (ws : List Write) (nt : Notes) (i : ℕ) (W : Whole m) (B
       seen = rw spot (stamp-here (row m i) (pl + z) t (omega (arith, W .rows i, slot-in c h (R .some), B .plain, B .slots)))
 
   -- a put publishes: the status's view covers the putter's
-  publishes : (h : ℕ) (o : Machine) → place m i ≡ PutPublish h → Storing m i (statusName m h) (fullStatus h) Idle o
-      → Now o ws (noted i (row o i) (deed (PutPublish h) Yes) nt)
+  publishes : (w h : ℕ) (o : Machine) → place m i ≡ PutPublish h → Storing m i (statusName m h) (fullStatus h) Idle o
+      → Now o ws (heard i (row o i) (putting w 4 h) Yes nt)
   unfolding cellsOf
-  publishes h o e x =
+  publishes w h o e x =
       let r = status-stored m i (fullStatus h) Idle o (slotOf c h) x in
-      memory-as c pl (firstOf m) o ws (noted i (row o i) (deed (PutPublish h) Yes) nt) _ _ _ (statusAt o) (x .held) (r .0) (r .1) (λ _. refl)
+      memory-as c pl (firstOf m) o ws (heard i (row o i) (putting w 4 h) Yes nt) _ _ _ (statusAt o) (x .held) (r .0) (r .1) (λ _. refl)
       (put-ended c pl pic (stages m) (row m) (leftBy m) M R i (row o i) _ (stages o) (mapped stage (x .goes .places))
       (row o) (record { here = refl; else = x .goes .rows .else }) (status o) (leftBy o) (told-own m i (statusName m h) W B)
       h (ap stage e) (mapped (λ (y : Atomic). y .value) (r .2)) (mapped (λ (y : Atomic). y .view) (r .2))
@@ -228,49 +230,54 @@ module _ (m : Machine) (ws : List Write) (nt : Notes) (i : ℕ) (W : Whole m) (B
       t w (ap stage e) (mapped (λ (y : Atomic). y .value) (r .2)) (mapped (λ (y : Atomic). y .view) (r .2)))
 
   -- a swap is won
-  wins-a-head : (h w : ℕ) (o : Machine) → place m i ≡ PutSwap h w → m .head .value ≡ h → Storing m i Head (nextRank h) (PutWrite h w) o
-      → Now o ws (noted i (row o i) (deed (PutSwap h w) Dash) nt)
-  wins-a-head h w o e d x =
+  wins-a-head : (h w : ℕ) (o : Machine) → place m i ≡ PutSwap h w → m .head .value ≡ h → length (ins (nt .ops)) ≡ h → Storing m i Head (nextRank h) (PutWrite h w) o
+      → Now o ws (heard i (row o i) (putting w 2 0) Dash nt)
+  unfolding ins
+  wins-a-head h w o e d n x =
       let r = head-stored m i (nextRank h) (PutWrite h w) o x in
-      memory-as c pl (firstOf m) o ws (noted i (row o i) (deed (PutSwap h w) Dash) nt) _ _ _ (statusAt m) (x .held) (r .0) (r .1) (r .2)
+      memory-as c pl (firstOf m) o ws (heard i (row o i) (putting w 2 0) Dash nt) _ _ _ (statusAt m) (x .held) (r .0) (r .1) (r .2)
       (head-won c pl pic (stages m) (row m) (leftBy m) M i (filling h w) _ (stages o) (mapped stage (x .goes .places))
-      (row o) (x .goes .rows) h w R (ap stage e) refl d (own Head) _ (changed (nt .weight) h (some w)))
+      (row o) (x .goes .rows) h w R (ap stage e) refl d (own Head) _ (one-more (ins (nt .ops)) h w n))
 
   wins-a-tail : (t : ℕ) (o : Machine) → place m i ≡ TakeSwap t → m .tail .value ≡ t → Storing m i Tail (nextRank t) (TakeRead t) o
-      → Now o ws (noted i (row o i) (deed (TakeSwap t) Dash) nt)
+      → Now o ws (heard i (row o i) (taking 2 0) Dash nt)
+  unfolding ins
   wins-a-tail t o e d x =
       let r = tail-stored m i (nextRank t) (TakeRead t) o x in
-      memory-as c pl (firstOf m) o ws (noted i (row o i) (deed (TakeSwap t) Dash) nt) _ _ _ (statusAt m) (x .held) (r .0) (r .1) (r .2)
+      memory-as c pl (firstOf m) o ws (heard i (row o i) (taking 2 0) Dash nt) _ _ _ (statusAt m) (x .held) (r .0) (r .1) (r .2)
       (tail-won c pl pic (stages m) (row m) (leftBy m) M i (emptying t) _ (stages o) (mapped stage (x .goes .places))
       (row o) (x .goes .rows) t R (ap stage e) refl d (own Tail))
 
-  pub memory-moves : Moves m ws i (λ p a o us. Now o us (noted i (row o i) (deed p a) nt))
+  pub memory-moves : ListedAt c m nt → Moves m ws i (λ v a o us. Now o us (heard i (row o i) (under (nt .calls i) v) a nt))
   unfolding cellsOf
-  memory-moves =
+  memory-moves L =
       record {
         gets = λ b t v o e _ x. quiet Idle (row m i) o (x .goes) (all-calm m o (x .cells)) (x .held) tt;
         sets = λ b t v o us e r x. sets b t v o us r x;
-        loads = λ f o e x. looks (Flag f) Idle o x tt;
-        stores = λ f v o e x. flags f v o x;
-        swap-wins = λ f v o e x. flags f v o x;
-        swap-loses = λ f o e x. looks (Flag f) Idle o x tt;
-        put-begins = λ w o e x. looks Head (PutStatus (m .head .value) w) o x tt;
-        put-sees = λ h w o e d x. looks (statusName m h) (PutSwap h w) o x
-            (λ a f. newest-up c pl (pic .top) h _ _ (R .some) (met-cell m i (statusName m h) W B) (M .free h a f));
+        loads = λ b f o e x. looks (Flag f) Idle o x tt;
+        stores = λ b f v o e x. flags f v o x;
+        swap-wins = λ b f u v o e x. rw (mark Idle e) (flags f v o x);
+        swap-loses = λ b f u v o e x. looks (Flag f) Idle o x tt;
+        put-begins = λ w o e x. rw (mark Idle e) (looks Head (PutStatus (m .head .value) w) o x tt);
+        put-sees = λ h w o e d x. rw (mark (PutStatus h w) e) (looks (statusName m h) (PutSwap h w) o x
+            (λ a f. newest-up c pl (pic .top) h _ _ (R .some) (met-cell m i (statusName m h) W B) (M .free h a f)));
         put-stops = λ h w o e x. looks (statusName m h) Idle o x tt;
-        put-wins = λ h w o e d x. wins-a-head h w o e d x;
+        put-wins = λ h w o e d x. rw (mark (PutSwap h w) e) (wins-a-head h w o e d (L .put ∙ d) x);
         put-loses = λ h w o e x. looks Head Idle o x tt;
-        put-writes = λ h w t o us e x. put-write h w t o us e x;
-        put-ends = λ h o e x. publishes h o e x;
-        take-begins = λ o e x. looks Tail (TakeStatus (m .tail .value)) o x tt;
-        take-sees = λ t o e d x. looks (statusName m t) (TakeSwap t) o x
-            (λ a f l. brings-up c pl pic t _ _ (R .some) (met-cell m i (statusName m t) W B) (M .full t f l a .0));
+        put-writes = λ h w t o us e x. rw (mark (PutWrite h w) e) (put-write h w t o us e x);
+        put-ends = λ h o e x. let y = mark (PutPublish h) e in rw (y .1) (publishes (y .0) h o e x);
+        take-begins = λ o e x. rw (mark Idle e) (looks Tail (TakeStatus (m .tail .value)) o x tt);
+        take-sees = λ t o e d x. rw (mark (TakeStatus t) e) (looks (statusName m t) (TakeSwap t) o x
+            (λ a f l. brings-up c pl pic t _ _ (R .some) (met-cell m i (statusName m t) W B) (M .full t f l a .0)));
         take-stops = λ t o e x. looks (statusName m t) Idle o x tt;
-        take-wins = λ t o e d x. wins-a-tail t o e d x;
+        take-wins = λ t o e d x. rw (mark (TakeSwap t) e) (wins-a-tail t o e d x);
         take-loses = λ t o e x. looks Tail Idle o x tt;
         take-reads = λ t s w o e x.
             let k = knew-at (TakeRead t) e in
-            quiet (TakeFree t w) (row m i) o (x .goes) (all-calm m o (x .cells)) (x .held)
-            (k .0, k .1 ∙ ap some (sym (one-stamp t s w e (x .low) (x .shown) .1)));
+            rw (mark (TakeRead t) e) (quiet (TakeFree t w) (row m i) o (x .goes) (all-calm m o (x .cells)) (x .held)
+            (k .0, k .1 ∙ ap some (sym (one-stamp t s w e (x .low) (x .shown) .1))));
         take-ends = λ t w o e x. frees t w o e x;
       }
+    where
+      mark : (p : Place) → place m i ≡ p → Marked (nt .calls i) p
+      mark p e = subst (Marked (nt .calls i)) e (L .marks i)

@@ -60,15 +60,15 @@ module _ (m : Machine) (ws : List Write) (i : ℕ) (R : Ringed (m .shape .slots)
       (same-hold _ _ _ (status m) (stages m) R i (stage q) (stages n) (mapped stage u) (ap (λ (z : Place). fills (stage z)) e ∙ f)
       (ap (λ (z : Place). empties (stage z)) e ∙ g) saw)
 
-  pub ring-moves : Moves m ws i (λ p a n us. Ringed (m .shape .slots) n)
+  pub ring-moves : Moves m ws i (λ v a n us. Ringed (m .shape .slots) n)
   ring-moves =
       record {
         gets = λ c t v n e _ x. quiet Idle Idle n e (all-calm m n (x .cells)) (x .goes .places) refl refl tt;
         sets = λ c t v n us e _ x. quiet Idle Idle n e (all-calm m n (x .cells)) (x .goes .places) refl refl tt;
-        loads = λ f n e x. quiet Idle Idle n e (all-calm m n (x .cells)) (x .goes .places) refl refl tt;
-        stores = λ f v n e x. quiet Idle Idle n e (flag-calm m i v Idle n f x) (x .goes .places) refl refl tt;
-        swap-wins = λ f v n e x. quiet Idle Idle n e (flag-calm m i v Idle n f x) (x .goes .places) refl refl tt;
-        swap-loses = λ f n e x. quiet Idle Idle n e (all-calm m n (x .cells)) (x .goes .places) refl refl tt;
+        loads = λ b f n e x. quiet Idle Idle n e (all-calm m n (x .cells)) (x .goes .places) refl refl tt;
+        stores = λ b f v n e x. quiet Idle Idle n e (flag-calm m i v Idle n f x) (x .goes .places) refl refl tt;
+        swap-wins = λ b f u v n e x. quiet Idle Idle n e (flag-calm m i v Idle n f x) (x .goes .places) refl refl tt;
+        swap-loses = λ b f u v n e x. quiet Idle Idle n e (all-calm m n (x .cells)) (x .goes .places) refl refl tt;
         put-begins = λ w n e x. quiet Idle (PutStatus (m .head .value) w) n e (all-calm m n (x .cells)) (x .goes .places) refl refl tt;
         put-sees = λ h w n e d x. quiet (PutStatus h w) (PutSwap h w) n e (all-calm m n (x .cells)) (x .goes .places) refl refl (le-of-eq (sym d));
         put-stops = λ h w n e x. quiet (PutStatus h w) Idle n e (all-calm m n (x .cells)) (x .goes .places) refl refl tt;

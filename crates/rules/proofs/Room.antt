@@ -50,7 +50,7 @@ abbrev Agree : ℕ → View → View → Type 0
 Agree k v w = (e : ℕ) → k ≤ e → stampOf v e ≡ stampOf w e
 
 -- no machine lacks an atomic cell that it has
-lacks-none : (s : Shape) (a : Name) → Known s a → Lacks s a → ⊥
+pub lacks-none : (s : Shape) (a : Name) → Known s a → Lacks s a → ⊥
 lacks-none s Head h l = l
 lacks-none s Tail h l = l
 lacks-none s (Flag f) h l = omega arith
@@ -234,4 +234,4 @@ pub room-kept : RoomKept
 unfolding stepOf decidedOf refusalOf
 room-kept m ws s =
     decided-room (refusalOf m ws s) m s (asked m s) _
-    (λ r. let t = passed _ _ _ _ _ _ r in taken-room m ws s (standing m ws (t .stands)) t)
+    (λ r. let t = passed _ _ _ _ _ _ r .0 in taken-room m ws s (standing m ws (t .stands)) t)

@@ -30,11 +30,11 @@ use Rattle.writes.specs.declared.Access.{Access}
 use Rattle.writes.specs.declared.Access.the-variants.{NoAccess, Reads, Writes}
 use Rattle.writes.specs.declared.Write.{Write}
 
--- a read is of one of k cells
-abbrev Ranged : ℕ → Access → Type 0
+-- an access is of one of k cells
+abbrev pub Ranged : ℕ → Access → Type 0
 Ranged k NoAccess = Unit {0}
 Ranged k (Reads c t) = (1 ≤ c) × (c ≤ k)
-Ranged k (Writes c t v) = Unit {0}
+Ranged k (Writes c t v) = (1 ≤ c) × (c ≤ k)
 
 module _ (m : Machine) (B : Bounds (m .shape)) where
   stamped-ranged : (p : Place) (t : ℕ) → Ranged (cellsOf m) (stampedAt (m .shape) p t)
@@ -42,17 +42,17 @@ module _ (m : Machine) (B : Bounds (m .shape)) where
   stamped-ranged Idle t = tt
   stamped-ranged (PutStatus h w) t = tt
   stamped-ranged (PutSwap h w) t = tt
-  stamped-ranged (PutWrite h w) t = tt
+  stamped-ranged (PutWrite h w) t = omega (arith, slot-in (m .shape .slots) h (B .some-slot))
   stamped-ranged (PutPublish h) t = tt
   stamped-ranged (TakeStatus k) t = tt
   stamped-ranged (TakeSwap k) t = tt
   stamped-ranged (TakeRead k) t = omega (arith, slot-in (m .shape .slots) k (B .some-slot))
   stamped-ranged (TakeFree k w) t = tt
 
-  ranged : (v : Verb) (p : Place) → named (m .shape) v ≡ true → Ranged (cellsOf m) (accessOf (m .shape) v p)
+  pub ranged : (v : Verb) (p : Place) → named (m .shape) v ≡ true → Ranged (cellsOf m) (accessOf (m .shape) v p)
   unfolding cellsOf
   ranged (Get c t) p e = omega (arith, among-some c (m .shape .plain) e)
-  ranged (Set c v t) p e = tt
+  ranged (Set c v t) p e = omega (arith, among-some c (m .shape .plain) e)
   ranged (Load f) p e = tt
   ranged (Store f v) p e = tt
   ranged (Swap f u v) p e = tt
@@ -77,5 +77,5 @@ module _ (m : Machine) (B : Bounds (m .shape)) where
     never r p n h =
         let l = past-early (stands m ws) m (length ws) s (asked m s) (foundBy m ws (asked m s)) r n (sym (numbered m ws s) ∙ h) in
         let v = stampOf (row m (s .thread - 1)) (c - 1) in
-        let z : 0 ≡ r = rw (e, le-ltb v v (omega arith), rw e at (there (l .0))) at (l .1) in
+        let z : 0 ≡ r = rw (e, le-ltb v v (omega arith), rw e at (there (l .0 .names))) at (l .1) in
         omega arith

@@ -5,7 +5,7 @@ use mathlib.Core.Logic.{_≢_}
 use Prim.Native.Nat.{ℕ}
 use native.Mathlib.Decide.{ℕ-discrete}
 use borrow.Author.Tests.{eq-eqb, ne-eqb}
-use Rattle.rules.specs.Notes.{with}
+use Rattle.rules.specs.Log.{with}
 
 -- f' is f with a at i
 pub record Updated {A : Type 0} (f : ℕ → A) (i : ℕ) (a : A) (f' : ℕ → A) : Type 0 where

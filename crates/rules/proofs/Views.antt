@@ -13,7 +13,7 @@ use Rattle.view.specs.View.{stampOf, withStamp, joinTo, joined, viewStands}
 use Rattle.view.specs.declared.View.{View}
 
 -- a stamp of a view that stands
-stamp : (k : ℕ) (v : View) → viewStands k v ≡ true → (i : ℕ) → i < k → stampOf v i ≤ most
+pub stamp : (k : ℕ) (v : View) → viewStands k v ≡ true → (i : ℕ) → i < k → stampOf v i ≤ most
 unfolding viewStands
 stamp k v e i l = leb-true _ _ (each _ k e i l)
 

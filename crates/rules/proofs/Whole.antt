@@ -14,7 +14,7 @@ use Rattle.laws.specs.Tests.{_and_}
 use Rattle.rules.specs.Access.{accessed}
 use Rattle.rules.specs.Calls.{goesOn, statusName, looks, swaps, closes, resumed, acted}
 use Rattle.rules.specs.Step.{valueOf, takenBy, decidedBy, refusalOf, decidedOf, stepOf}
-use Rattle.opening.specs.Opening.{weightsStand, flagsRoom, statusesRoom, unmoved, fresh, refusedOpening, openedIf, openedOf}
+use Rattle.opening.specs.Opening.{weightsStand, givenRoom, flagsRoom, statusesRoom, unmoved, fresh, refusedOpening, openedIf, openedOf}
 use Rattle.rank.specs.Rank.{nextRank}
 use Rattle.standing.specs.Stands.{inShape}
 use Rattle.state.proofs.Changed.{atomics-same}
@@ -40,9 +40,9 @@ use Rattle.writes.specs.declared.Access.the-variants.{NoAccess, Reads, Writes}
 use Rattle.writes.specs.declared.Found.{Found}
 
 -- a machine by its lists
-whole : {m : Machine} → length (m .views) ≡ 8 → length (m .threads) ≡ 8 → length (m .flags) ≡ 8 → length (m .statuses) ≡ 16
+whole : {m : Machine} → length (m .firsts) ≡ 16 → length (m .views) ≡ 8 → length (m .threads) ≡ 8 → length (m .flags) ≡ 8 → length (m .statuses) ≡ 16
     → ((i : ℕ) → length (row m i .at) ≡ 32) → ((a : Name) → length (atomicAt m a .view .at) ≡ 32) → Whole m
-whole vs ts fs ss rs ns = record { views = vs; threads = ts; flags = fs; statuses = ss; rows = rs; seen = ns }
+whole gs vs ts fs ss rs ns = record { firsts = gs; views = vs; threads = ts; flags = fs; statuses = ss; rows = rs; seen = ns }
 
 -- the atomic cells of another machine that has the same
 seen-same : (m n : Machine) → Whole m → n .flags ≡ m .flags → n .head ≡ m .head → n .tail ≡ m .tail → n .statuses ≡ m .statuses
@@ -53,19 +53,19 @@ seen-same m n w f h t s a = rw (atomics-same m n f h t s a) (w .seen a)
 row-whole : (m : Machine) (i : ℕ) (v : View) → Whole m → length (v .at) ≡ 32 → Whole (withRow m i v)
 unfolding withRow row
 row-whole m i v w h =
-    whole (set-length (m .views) i v ∙ w .views) (w .threads) (w .flags) (w .statuses)
+    whole (w .firsts) (set-length (m .views) i v ∙ w .views) (w .threads) (w .flags) (w .statuses)
     (λ j. set-either (λ (x : View). length (x .at) ≡ 32) (m .views) i j v zeroView h (w .rows j)) (seen-same m _ w refl refl refl refl)
 
 -- a place replaced
 place-whole : (m : Machine) (i : ℕ) (p : Place) → Whole m → Whole (withPlace m i p)
 unfolding withPlace row
 place-whole m i p w =
-    whole (w .views) (set-length (m .threads) i (at p) ∙ w .threads) (w .flags) (w .statuses) (w .rows) (seen-same m _ w refl refl refl refl)
+    whole (w .firsts) (w .views) (set-length (m .threads) i (at p) ∙ w .threads) (w .flags) (w .statuses) (w .rows) (seen-same m _ w refl refl refl refl)
 
 -- the counts of steps and held writes replaced
 counts-whole : {m : Machine} {n k : ℕ} → Whole m → Whole (withHeld (withSteps m n) k)
 unfolding row
-counts-whole w = whole (w .views) (w .threads) (w .flags) (w .statuses) (w .rows) (seen-same _ _ w refl refl refl refl)
+counts-whole w = whole (w .firsts) (w .views) (w .threads) (w .flags) (w .statuses) (w .rows) (seen-same _ _ w refl refl refl refl)
 
 -- an atomic cell replaced by one whose view has the same length
 atomic-whole : (m : Machine) (a : Name) (x : Atomic) → Whole m → length (x .view .at) ≡ 32 → Whole (withAtomic m a x)
@@ -73,10 +73,10 @@ unfolding withAtomic row
 atomic-whole m a x w h = go a (λ b. atomic-each (λ _ (y : Atomic). length (y .view .at) ≡ 32) m a b x h (w .seen b))
   where
     go : (c : Name) → ((b : Name) → length (atomicAt (withAtomic m c x) b .view .at) ≡ 32) → Whole (withAtomic m c x)
-    go Head s = whole (w .views) (w .threads) (w .flags) (w .statuses) (w .rows) s
-    go Tail s = whole (w .views) (w .threads) (w .flags) (w .statuses) (w .rows) s
-    go (Flag i) s = whole (w .views) (w .threads) (set-length (m .flags) i x ∙ w .flags) (w .statuses) (w .rows) s
-    go (Status i) s = whole (w .views) (w .threads) (w .flags) (set-length (m .statuses) i x ∙ w .statuses) (w .rows) s
+    go Head s = whole (w .firsts) (w .views) (w .threads) (w .flags) (w .statuses) (w .rows) s
+    go Tail s = whole (w .firsts) (w .views) (w .threads) (w .flags) (w .statuses) (w .rows) s
+    go (Flag i) s = whole (w .firsts) (w .views) (w .threads) (set-length (m .flags) i x ∙ w .flags) (w .statuses) (w .rows) s
+    go (Status i) s = whole (w .firsts) (w .views) (w .threads) (w .flags) (set-length (m .statuses) i x ∙ w .statuses) (w .rows) s
 
 -- a call goes on or ends
 goes-on-whole : (b : Bool) (m : Machine) (i : ℕ) (p : Place) (lost : Answer) → Whole m → Whole (goesOn b m i p lost .machine)
@@ -169,10 +169,10 @@ valued-seen f (suc n) room i =
     set-either (λ (x : Atomic). length (x .view .at) ≡ 32) (valued f n room) n i (atomic (f n) zeroView) zeroAtomic refl (valued-seen f n room i)
 
 -- a machine that has not moved
-unmoved-whole : (s : Shape) (given : List ℕ) (flags statuses : List Atomic) → length flags ≡ 8 → length statuses ≡ 16
+unmoved-whole : (s : Shape) (given : List ℕ) (flags statuses : List Atomic) → length given ≡ 16 → length flags ≡ 8 → length statuses ≡ 16
     → AllSeen flags → AllSeen statuses → Whole (unmoved s given flags statuses)
 unfolding unmoved row atomicAt
-unmoved-whole s given flags statuses f h p q = whole refl refl f h (λ i. rw (replicated 8 zeroView i) refl) go
+unmoved-whole s given flags statuses g f h p q = whole g refl refl f h (λ i. rw (replicated 8 zeroView i) refl) go
   where
     go : (a : Name) → length (atomicAt (unmoved s given flags statuses) a .view .at) ≡ 32
     go Head = refl
@@ -183,14 +183,14 @@ unmoved-whole s given flags statuses f h p q = whole refl refl f h (λ i. rw (re
 -- an opening, refused or not
 opened-whole : (b d : Bool) (m : Machine) → Whole m → Whole (openedIf b d m .machine)
 unfolding refusedOpening
-opened-whole false d m w = unmoved-whole _ _ _ _ refl refl (zero-seen 8) (zero-seen 16)
-opened-whole true false m w = unmoved-whole _ _ _ _ refl refl (zero-seen 8) (zero-seen 16)
+opened-whole false d m w = unmoved-whole _ _ _ _ refl refl refl (zero-seen 8) (zero-seen 16)
+opened-whole true false m w = unmoved-whole _ _ _ _ refl refl refl (zero-seen 8) (zero-seen 16)
 opened-whole true true m w = w
 
 -- A fresh machine is as long as its arrays.
 pub fresh-whole : FreshWhole
-unfolding openedOf fresh flagsRoom statusesRoom
+unfolding openedOf fresh givenRoom flagsRoom statusesRoom
 fresh-whole t c plain flags =
     opened-whole (inShape t c (length plain) (length flags)) (weightsStand plain and weightsStand flags) (fresh t c plain flags)
-    (unmoved-whole _ _ _ _ (filled-length _ (length flags) (replicate 8 zeroAtomic)) (filled-length _ c (replicate 16 zeroAtomic))
+    (unmoved-whole _ _ _ _ (filled-length _ (length plain) (replicate 16 0)) (filled-length _ (length flags) (replicate 8 zeroAtomic)) (filled-length _ c (replicate 16 zeroAtomic))
     (valued-seen _ (length flags) 8) (valued-seen _ c 16))

@@ -2,11 +2,12 @@
 use mathlib.Core.Path.{_≡_}
 use mathlib.Core.Bool.{true, false}
 use mathlib.Core.List.{List}
+use mathlib.Core.Logic.{_⊎_}
 use Prim.Native.Nat.{ℕ, _+_, _<_, _≤_}
 use Rattle.rules.specs.Step.{refusalOf, stepOf}
 use Rattle.opening.specs.Opening.{openedOf}
 use Rattle.standing.specs.Stands.{stands}
-use Rattle.state.specs.State.{cellsOf, row, place, atomicAt, Whole}
+use Rattle.state.specs.State.{cellsOf, row, place, atomicAt, firstOf, Whole}
 use Rattle.state.specs.declared.Machine.{Machine}
 use Rattle.state.specs.declared.Name.{Name}
 use Rattle.state.specs.declared.Name.the-variants.{Head, Tail, Flag, Status}
@@ -22,6 +23,12 @@ numberGiven m ws s = numberOf (stepOf m ws s .done .answer)
 -- The number that a step is answered with is that of the first refusal in order, 0 where none is given.
 abbrev pub Numbered : Type 0
 Numbered = (m : Machine) (ws : List Write) (s : Step) → numberGiven m ws s ≡ refusalOf m ws s
+
+-- A step's number is 0, or one of 6 to 14.
+abbrev pub StepNumbered : Type 0
+StepNumbered =
+    (m : Machine) (ws : List Write) (s : Step)
+    → (numberGiven m ws s ≡ 0) ⊎ ((6 ≤ numberGiven m ws s) × (numberGiven m ws s ≤ 14))
 
 -- A refused step gives back the same state and list.
 abbrev pub RefusedKeeps : Type 0
@@ -77,3 +84,20 @@ pub record SameRoom (m n : Machine) : Type 0 where
 
 abbrev pub RoomKept : Type 0
 RoomKept = (m : Machine) (ws : List Write) (s : Step) → SameRoom m (stepOf m ws s .done .machine)
+
+-- Two machines that agree outside their room, in all that a machine of their shape has.
+pub record Alike (m k : Machine) : Type 0 where
+  pub shape : k .shape ≡ m .shape
+  pub steps : k .steps ≡ m .steps
+  pub held : k .held ≡ m .held
+  pub firsts : (e : ℕ) → e < m .shape .plain → firstOf k e ≡ firstOf m e
+  pub places : (i : ℕ) → i < m .shape .threads → place k i ≡ place m i
+  pub rows : (i e : ℕ) → i < m .shape .threads → e < cellsOf m → stampOf (row k i) e ≡ stampOf (row m i) e
+  pub values : (a : Name) → (Lacks (m .shape) a → ⊥) → atomicAt k a .value ≡ atomicAt m a .value
+  pub seen : (a : Name) (e : ℕ) → (Lacks (m .shape) a → ⊥) → e < cellsOf m → stampOf (atomicAt k a .view) e ≡ stampOf (atomicAt m a .view) e
+
+-- Room is not judged, and no refusal looks at it.
+abbrev pub RoomUnjudged : Type 0
+RoomUnjudged =
+    (m k : Machine) (ws : List Write) (s : Step) → Alike m k
+    → (stands k ws ≡ stands m ws) × (numberGiven k ws s ≡ numberGiven m ws s)

@@ -2,6 +2,6 @@ pub mod Access
 pub mod Calls
 pub mod Step
 pub mod Kept
-pub mod Notes
+pub mod Log
 pub mod Queue
 pub mod Reached

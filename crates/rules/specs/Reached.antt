@@ -7,7 +7,7 @@ use Prim.Native.Nat.{ℕ, _+_, _-_, _<_, _≤_}
 use Rattle.accesses.specs.Accesses.{present}
 use Rattle.rules.specs.Kept.{numberGiven}
 use Rattle.rules.specs.Step.{asked}
-use Rattle.rules.specs.Notes.{Point, Throughout, threadOf}
+use Rattle.rules.specs.Log.{Point, Throughout, threadOf}
 use Rattle.state.specs.State.{cellsOf, row, atomicAt, firstOf}
 use Rattle.state.specs.declared.Machine.{Machine}
 use Rattle.state.specs.declared.Name.{Name}

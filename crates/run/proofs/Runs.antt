@@ -105,7 +105,7 @@ module _ {text : List ℕ} {x : Run} {before : List ℕ} where
     stood-after : numberOf (d .answer) ≡ 0 → stands (d .machine) ws' ≡ true
     unfolding refusalOf
     stood-after z =
-        let p = passed _ _ _ _ _ _ (sym (numbered m ws s) ∙ ap (λ (u : Outcome). numberOf (u .done .answer)) (sym o) ∙ z) in
+        let p = passed _ _ _ _ _ _ (sym (numbered m ws s) ∙ ap (λ (u : Outcome). numberOf (u .done .answer)) (sym o) ∙ z) .0 in
         ap (λ (u : Outcome). stands (u .done .machine) (u .writes)) o ∙ standing-kept m ws s (p .stands)
 
     -- before a step that is taken: its answer, and the steps after it

@@ -67,6 +67,7 @@ firstOf m i = givenIf (ltb i (m .shape .plain)) (getD (m .firsts) i 0)
 
 -- The lists are as long as the arrays that they are.
 pub record Whole (m : Machine) : Type 0 where
+  pub firsts : length (m .firsts) ≡ 16
   pub views : length (m .views) ≡ 8
   pub threads : length (m .threads) ≡ 8
   pub flags : length (m .flags) ≡ 8

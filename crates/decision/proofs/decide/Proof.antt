@@ -21,7 +21,7 @@ take-requires : tie.Need-take-requires
 take-requires c κs =
     let a = c .before .before .args in
     let e : refusalBy (a .stand) (a .m) (a .lent) (a .step) (a .a) (a .f) ≡ 0 = rw (← c .before .refusal-by .ensures) (c .if1 .taken) in
-    let p = passed (a .stand) (a .m) (a .lent) (a .step) (a .a) (a .f) e in
+    let p = passed (a .stand) (a .m) (a .lent) (a .step) (a .a) (a .f) e .0 in
     let z = c .before .before .pre (p .stands) in
     (z .0, fits-rank (a .m) (a .step) (p .thread .1) (z .1))
 

@@ -1,9 +1,9 @@
-use Rattle.image.proofs.Faithful.{image-long, image-faithful}
+use Rattle.image.proofs.Faithful.{image-long, image-faithful, image-whole}
 use Rattle.promises.proofs.images_are_faithful.Statement.{statement}
 use Rattle.promises.proofs.images_are_faithful.Tie as tie
 
 returns : tie.Need-returns
-returns c = (image-long, image-faithful)
+returns c = (image-long, image-faithful, image-whole)
 
 pub images-are-faithful-spec : {M : Type 1} → statement M
 images-are-faithful-spec = tie.close (tie.spec returns)
