@@ -123,16 +123,20 @@ toldBy no-call v f = f
 toldBy (putting w k r) v f = with f r (some v)
 toldBy (taking k r) v f = f
 
+-- thread i is in no call any more
+abbrev pub over : ℕ → Seen → Seen
+over i n = record { calls = with (n .calls) i no-call; ops = n .ops; published = n .published }
+
 -- a line of thread i, of call c, by its answer: a refusal is ignored, and any but "-" ends the call
 abbrev pub heard : ℕ → View → Call → Answer → Seen → Seen
 heard i v c (Refused k) n = n
 heard i v c Dash n = record { calls = with (n .calls) i (onward (n .ops) c); ops = withSwap c (n .ops); published = n .published }
 heard i v c Yes n = record { calls = with (n .calls) i no-call; ops = n .ops; published = toldBy c v (n .published) }
-heard i v c Ok n = record { calls = with (n .calls) i no-call; ops = n .ops; published = n .published }
-heard i v c (Value x) n = record { calls = with (n .calls) i no-call; ops = n .ops; published = n .published }
-heard i v c No n = record { calls = with (n .calls) i no-call; ops = n .ops; published = n .published }
-heard i v c None n = record { calls = with (n .calls) i no-call; ops = n .ops; published = n .published }
-heard i v c (Got w) n = record { calls = with (n .calls) i no-call; ops = n .ops; published = n .published }
+heard i v c Ok n = over i n
+heard i v c (Value x) n = over i n
+heard i v c No n = over i n
+heard i v c None n = over i n
+heard i v c (Got w) n = over i n
 
 -- the call of an entry, after what was seen before it
 abbrev pub callIn : Seen → Step → Call
