@@ -1,19 +1,24 @@
--- The queue of a report is the plain list. Assumes nothing.
-use Prim.Native.Nat.{ℕ, suc, _+_, _-_}
-use mathlib.Core.Path.{_≡_, refl, subst}
+-- The report of a text that is taken, told by the log of its run. Assumes nothing.
+use Prim.Native.Nat.{ℕ, suc, _+_, _-_, _<_}
+use mathlib.Core.Path.{_≡_, refl, sym, subst}
 use mathlib.Core.List.{List, [], _∷_}
 use mathlib.Core.Option.{Option, some}
 use native.Mathlib.Omega.{arith}
-use lib.ListN.{length, replicate, getElem?}
+use lib.ListN.{length, replicate, getElem?, drop}
 use Rattle.opening.specs.Opening.{openedOf}
-use Rattle.promises.specs.Shown.{lastOf, weightLines, Shows, ReportShows}
-use Rattle.reported.specs.Report.{rankLines, queueLines, runOf}
+use Rattle.promises.specs.Shown.{afterSteps, weightLines, insideLines, Shows, ReportShows}
+use Rattle.reported.specs.Report.{rankLines, queueLines, runLines, runOf, reported}
 use Rattle.rules.proofs.Holds.{queue-holds}
 use Rattle.rules.specs.Log.{Point, start, seen}
 use Rattle.rules.specs.Queue.{showing, Queue}
 use Rattle.rules.specs.Step.{contentOf}
 use Rattle.run.proofs.Prefix.{ran-through}
+use Rattle.run.specs.Prefix.{toldIn, AllTaken, refusedNext}
+use Rattle.run.specs.Run.{Run, Told}
 use Rattle.state.specs.declared.Machine.{Machine}
+use Rattle.step.specs.declared.Answer.the-variants.{Ok}
+use Rattle.step.specs.declared.Step.{Step}
+use Rattle.texts.specs.Schedule.{Schedule}
 use Rattle.view.specs.declared.View.{View}
 use Rattle.writes.specs.Records.{noWrite}
 use Rattle.writes.specs.declared.Write.{Write}
@@ -32,24 +37,35 @@ module _ (m : Machine) (ws : List Write) (told : ℕ → Option View) where
       rw (first, ranks (suc k) xs (λ j w e. subst (λ (z : ℕ). Shown z w) (omega arith) (f (suc j) w e)))
 
 -- at a point where demand 3 holds
-shows : (p : Point) → Queue p → Shows (p .machine .shape .slots) (seen (p .log)) (queueLines (p .machine) (p .writes))
+inside : (b c : ℕ) (p : Point) → (Q : Queue b c p) → queueLines (p .machine) (p .writes) ≡ insideLines (seen (p .log)) (Q .line .inside)
 unfolding queueLines
-shows p Q =
+inside b c p Q =
     let m = p .machine in
-    let n = seen (p .log) in
     let count : m .head .value - m .tail .value ≡ length (Q .line .inside) = omega (arith, Q .reaches) in
+    rw (count, ranks m (p .writes) (seen (p .log) .published) (m .tail .value) (Q .line .inside) (Q .contents), Q .takes)
+
+-- a run that has come to such a point
+shows : (b c : ℕ) (p : Point) (left : List Step) (r : Run) → Queue b c p → r .machine ≡ p .machine → r .writes ≡ p .writes → toldIn (p .log) ≡ r .answers
+    → AllTaken (r .answers) → r .refused ≡ refusedNext p left → (0 < length left → 0 < r .refused) → Shows c p left (runLines r)
+unfolding runLines
+shows b c p left r Q m ws told taken refused stops =
     record {
+      taken = subst AllTaken (sym told) taken;
+      stops = λ h. subst (λ (k : ℕ). 0 < k) refused (stops h);
       line = Q .line;
       plain-list = Q .plain-list;
-      shown = rw (
-        count,
-        ranks m (p .writes) (n .published) (m .tail .value) (Q .line .inside) (Q .contents),
-        Q .takes,
-      );
+      first = rw told;
+      rest = rw (m, ws, inside b c p Q, told, refused);
     }
 
 pub report-shows : ReportShows
-unfolding runOf start
-report-shows x e =
+unfolding reported runOf start toldIn
+report-shows s x e opened =
     let u = ran-through (start (openedOf (x .threads) (x .slots) (x .plain) (x .flag) .machine) (replicate 1024 noWrite)) (x .steps) in
-    rw (u .machine, u .writes) (shows (lastOf x) (queue-holds (x .threads) (x .slots) (x .plain) (x .flag) (replicate 1024 noWrite) _ e))
+    let k = length (runOf x .answers) in
+    rw e (record {
+      upto = k;
+      shows = shows _ _ (afterSteps x k) (drop k (x .steps)) (runOf x)
+          (queue-holds (x .threads) (x .slots) (x .plain) (x .flag) (replicate 1024 noWrite) _ opened)
+          (u .machine) (u .writes) (u .answers) (u .taken) (u .refused) (u .stops);
+    })

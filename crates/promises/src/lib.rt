@@ -7,7 +7,7 @@ ghost use Rattle.cases.specs.Table.{StarredHold};
 ghost use Rattle.rules.specs.Kept.{Numbered, StepNumbered, RefusedKeeps, TakenCounts, StandingKept, FreshStands, FreshWhole, WholeKept, RefusedFalls, RoomKept, RoomUnjudged};
 ghost use Rattle.decision.specs.Known.{StepAnew, StepKnown, KnownNumbered, KnownKeeps};
 ghost use Rattle.published.specs.Follows.{TakenFollows, AllowedTaken, OneEvent, OneOutcome, OnlyOutcome, StepsAlike, DueByCode};
-ghost use Rattle.published.specs.Premises.{ViewRefused, HistoryRefused};
+ghost use Rattle.published.specs.Premises.{FirstGiven};
 ghost use Rattle.rules.specs.Queue.{QueueHolds};
 ghost use Rattle.rules.specs.Reached.{ReachedHolds};
 ghost use Rattle.run.specs.Prefix.{RanThrough};
@@ -84,9 +84,10 @@ pub fn steps_have_one_outcome()
     ensures { λ r. ⌜ OneOutcome × OnlyOutcome ⌝ }
 {}
 
-// 12 is given exactly when the rule's premise on the thread's view fails, 13 exactly when that holds and the one on the history fails.
-pub fn premises_are_numbered()
-    ensures { λ r. ⌜ ViewRefused × HistoryRefused ⌝ }
+// Each number of a refused step is given exactly when its own condition fails and none before it does; of 12 and 13 these are the rule's
+// premises, on the thread's view and on the history.
+pub fn refusals_are_exact()
+    ensures { λ r. ⌜ FirstGiven ⌝ }
 {}
 
 // From a fresh machine, over any steps, refused ones included: the won calls' answers are those of a plain first-in first-out list of at
@@ -100,8 +101,8 @@ pub fn runs_are_one()
     ensures { λ r. ⌜ RanThrough ⌝ }
 {}
 
-// And the queue of its report is the plain list: its weights in order, or `-` while a putter has not published.
-pub fn reports_show_the_list()
+// And its report is told by that run's log: the answers, the plain list with `-` while a putter has not published, the refused step.
+pub fn reports_show_the_run()
     ensures { λ r. ⌜ ReportShows ⌝ }
 {}
 

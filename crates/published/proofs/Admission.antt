@@ -5,7 +5,7 @@ use mathlib.Core.List.{List}
 use Prim.Native.Nat.{ℕ, _-_}
 use lib.ListN.{length}
 use Rattle.accesses.specs.Accesses.{outdated, amiss}
-use Rattle.refusal.proofs.Passed.{first, others, early, late, Passed, past-early, by-late, passed, unrefused}
+use Rattle.refusal.proofs.Passed.{Passed, passed, unrefused}
 use Rattle.rules.specs.Access.{foundBy}
 use Rattle.rules.specs.Step.{asked, refusalOf}
 use Rattle.published.specs.Follows.{Admitted}
@@ -42,15 +42,3 @@ module _ (m : Machine) (ws : List Write) (s : Step) where
   pub taken-if : Admitted m ws s → Fits m ws (s .thread - 1) (asked m s) → refusalOf m ws s ≡ 0
   unfolding refusalOf
   taken-if A F = unrefused (stands m ws) m (length ws) s (asked m s) (foundBy m ws (asked m s)) (passes A) F
-
-  -- a number that no test before 12 gives, the last two give
-  pub past : (r : ℕ) → others r (early (stands m ws) m (length ws) s (asked m s) (foundBy m ws (asked m s))) ≡ true → refusalOf m ws s ≡ r
-      → Admitted m ws s × (first (late (stands m ws) m (length ws) s (asked m s) (foundBy m ws (asked m s))) ≡ r)
-  unfolding refusalOf
-  past r n e =
-      let x = past-early (stands m ws) m (length ws) s (asked m s) (foundBy m ws (asked m s)) r n e in
-      (admits (x .0), x .1)
-
-  pub by-last : Admitted m ws s → refusalOf m ws s ≡ first (late (stands m ws) m (length ws) s (asked m s) (foundBy m ws (asked m s)))
-  unfolding refusalOf
-  by-last A = by-late (stands m ws) m (length ws) s (asked m s) (foundBy m ws (asked m s)) (passes A)

@@ -45,5 +45,5 @@ taken-follows m ws s W n =
 pub allowed-taken : AllowedTaken
 allowed-taken m ws s A P =
     let x = meets _ _ _ _ _ _ _ _ _ (P .makes) (P .rule) in
-    let t = tested m ws s A in
+    let t = tested m ws s (A .due) in
     numbered m ws s ∙ taken-if m ws s A (t .view .1 (x .0), t .history .1 (x .1))

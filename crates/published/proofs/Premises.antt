@@ -1,25 +1,23 @@
--- Refusals 12 and 13 are the premises of a rule, that on the thread's view and that on the history. Assumes nothing.
-use mathlib.Core.Path.{_≡_, refl, sym, _∙_}
+-- When each number of a refused step is given; 12 and 13 are the premises of a rule, on the thread's view and on the history. Assumes nothing.
+use mathlib.Core.Path.{_≡_, refl, sym, ap, _∙_}
 use mathlib.Core.Bool.{Bool, true, false, not, false≢true}
 use mathlib.Core.List.{List}
-use mathlib.Core.Logic.{_≢_, _↔_}
+use mathlib.Core.Logic.{_≢_, _↔_, inl, inr}
 use Prim.Native.Nat.{ℕ, _-_}
 use native.Mathlib.Omega.{arith}
-use borrow.Author.Tests.{leb-false, ltb-false, lt-leb, le-ltb}
+use borrow.Author.Tests.{leb-false, ltb-false, lt-leb, le-ltb, eqb-true, eq-eqb, not-false}
 use Rattle.accesses.specs.Accesses.{outdated, amiss, present}
-use Rattle.laws.specs.Tests.{_and_}
 use Rattle.places.specs.Places.{dueAt}
 use Rattle.rules.proofs.Refused.{numbered}
 use Rattle.rules.specs.Access.{slotCell, accessOf, foundBy}
-use Rattle.rules.specs.Step.{asked}
-use Rattle.published.proofs.Admission.{past, by-last}
+use Rattle.rules.specs.Step.{asked, refusalOf}
 use Rattle.published.specs.Calls.{write, Code, Makes, item, codeOf, stampIn, reads, writes, read, read-at, write-at, swap-won, swap-lost}
-use Rattle.published.specs.Follows.{storeOf, stampsOf, Admitted, running}
+use Rattle.published.specs.Follows.{storeOf, stampsOf, running}
 use Rattle.published.specs.Memory.{Stamps, Memory, Event, Rule, mem-na-read, mem-na-write}
-use Rattle.published.specs.Premises.{InView, InHistory, ViewRefused, HistoryRefused}
+use Rattle.published.specs.Premises.{ViewPremise, HistoryPremise, Unless, FirstFailed, FirstGiven}
 use Rattle.rank.specs.Rank.{slotOf}
-use Rattle.refusal.proofs.Passed.{others}
-use Rattle.refusal.specs.Refusal.{refuse}
+use Rattle.refusal.proofs.Passed.{among-some, some-among}
+use Rattle.refusal.specs.Refusal.{refuse, refusalBy}
 use Rattle.state.specs.State.{row, place}
 use Rattle.state.specs.declared.Machine.{Machine}
 use Rattle.state.specs.declared.Place.{Place}
@@ -36,7 +34,7 @@ use Rattle.writes.specs.declared.Found.the-variants.{Missing, Present}
 use Rattle.writes.specs.declared.Write.{Write}
 
 -- what a rule lets a code do meets its premises
-pub meets : (D : Shape) (σ σ' : Memory) (W W' : Stamps) (c d : Code) (t : ℕ) (e : Event) → Makes c t e d → Rule D σ W e σ' W' → InView W c t × InHistory σ c t
+pub meets : (D : Shape) (σ σ' : Memory) (W W' : Stamps) (c d : Code) (t : ℕ) (e : Event) → Makes c t e d → Rule D σ W e σ' W' → ViewPremise W c t × HistoryPremise σ c t
 meets D σ _ W _ _ _ _ _ (read a f t v) (mem-na-read _ _ _ _ _ _ h b _ _) = (b, λ n. let z : _≡_ {A = ℕ} 0 1 = cc in omega arith)
 meets D σ _ W _ _ _ _ _ (write a v c t) (mem-na-write _ _ _ _ _ _ h b _ _) = (omega arith, h)
 meets D σ _ W _ _ _ _ _ (read-at A f t v) r = (tt, tt)
@@ -59,8 +57,8 @@ none = ((λ e. tt), (λ u. refl))
 module _ (m : Machine) (ws : List Write) (i : ℕ) where
   -- the tests of an access are the premises on the event that a code makes at a time stamp
   pub record Tests (a : Access) (c : Code) (t : ℕ) : Type 0 where
-    pub view : (outdated a (row m i) ≡ false) ↔ InView (stampsOf m i) c t
-    pub history : (amiss a (foundBy m ws a) ≡ false) ↔ InHistory (storeOf m ws) c t
+    pub view : (outdated a (row m i) ≡ false) ↔ ViewPremise (stampsOf m i) c t
+    pub history : (amiss a (foundBy m ws a) ≡ false) ↔ HistoryPremise (storeOf m ws) c t
 
   read-tests : (c t : ℕ) (f : ℕ → Code) → Tests (Reads c t) (reads c f) t
   unfolding foundBy
@@ -98,44 +96,39 @@ module _ (m : Machine) (ws : List Write) (i : ℕ) where
   tests (GoAt t) (TakeRead r) d = read-tests (item (m .shape) r) t _
   tests (GoAt t) (TakeFree r w) d = absurd (omega arith)
 
--- what the last two tests give
-twelve : (b c : Bool) → (refuse b 12 (refuse c 13 0) ≡ 12) ↔ ((b ≡ false) → ⊥)
-twelve true c = ((λ e n. false≢true (sym n)), (λ n. refl))
-twelve false true = ((λ e. absurd (omega arith)), (λ n. absurd (n refl)))
-twelve false false = ((λ e. absurd (omega arith)), (λ n. absurd (n refl)))
+pub tested : (m : Machine) (ws : List Write) (s : Step) → asks (s .verb) ≡ dueAt (place m (s .thread - 1))
+    → Tests m ws (s .thread - 1) (asked m s) (running m s) (stampIn (s .verb))
+tested m ws s d = tests m ws (s .thread - 1) (s .verb) (place m (s .thread - 1)) d
 
-thirteen : (b c : Bool) → (refuse b 12 (refuse c 13 0) ≡ 13) ↔ ((b ≡ false) × ((c ≡ false) → ⊥))
-thirteen true c = ((λ e. absurd (omega arith)), (λ n. absurd (false≢true (sym (n .0)))))
-thirteen false true = ((λ e. (refl, λ n. false≢true (sym n))), (λ n. refl))
-thirteen false false = ((λ e. absurd (omega arith)), (λ n. absurd (n .1 refl)))
+-- a test that does not hold exactly where P holds gives its number exactly where P fails; what comes after it may lean on P
+unless : (b : Bool) (n rest : ℕ) (P : Type 0) (later : ℕ → Type 0) → (b ≡ false) ↔ P → (P → (k : ℕ) → (rest ≡ k) ↔ later k) → (k : ℕ)
+    → (refuse b n rest ≡ k) ↔ Unless P n later k
+unless b n rest P later t f k = (to b t, back b t)
+  where
+    to : (b : Bool) → (b ≡ false) ↔ P → refuse b n rest ≡ k → Unless P n later k
+    to true t e = inl ((λ x. false≢true (sym (t .1 x))), sym e)
+    to false t e = inr (t .0 refl, f (t .0 refl) k .0 e)
 
-module _ (m : Machine) (ws : List Write) (s : Step) where
-  pub tested : Admitted m ws s → Tests m ws (s .thread - 1) (asked m s) (running m s) (stampIn (s .verb))
-  tested A = tests m ws (s .thread - 1) (s .verb) (place m (s .thread - 1)) (A .due)
+    back : (b : Bool) → (b ≡ false) ↔ P → Unless P n later k → refuse b n rest ≡ k
+    back true t (inl (x, e)) = sym e
+    back true t (inr (x, y)) = absurd (false≢true (sym (t .1 x)))
+    back false t (inl (x, e)) = absurd (x (t .0 refl))
+    back false t (inr (x, y)) = f x k .1 y
 
-  -- the tests of 12 and 13
-  abbrev old : Bool
-  old = outdated (asked m s) (row m (s .thread - 1))
+unnot : (b : Bool) → (not b ≡ false) ↔ (b ≡ true)
+unnot b = (not-false b, ap not)
 
-  abbrev wrong : Bool
-  wrong = amiss (asked m s) (foundBy m ws (asked m s))
+-- the chain of tests
+in-turn : (m : Machine) (ws : List Write) (s : Step) (k : ℕ) → (refusalOf m ws s ≡ k) ↔ FirstFailed m ws s k
+unfolding refusalOf refusalBy
+in-turn m ws s =
+    unless _ 14 _ _ _ (unnot _) (λ _. unless _ 6 _ _ _ (leb-false _ _, lt-leb _ _) (λ _.
+    unless _ 7 _ _ _ ((λ e. among-some _ _ (not-false _ e)), (λ h. ap not (some-among _ _ h))) (λ _.
+    unless _ 8 _ _ _ ((λ e. eqb-true _ _ (not-false _ e)), (λ e. ap not (eq-eqb _ _ e))) (λ d.
+    unless _ 9 _ _ _ (unnot _) (λ _. unless _ 10 _ _ _ (ltb-false _ _, le-ltb _ _) (λ _. unless _ 11 _ _ _ ((λ e. e), (λ e. e)) (λ _.
+    unless _ 12 _ _ _ (tested m ws s d .view) (λ _. unless _ 13 _ _ _ (tested m ws s d .history) (λ _ k. (sym, sym))))))))))
 
-pub view-refused : ViewRefused
-unfolding others _and_
-view-refused m ws s = (
-  λ n.
-      let x = past m ws s 12 refl (sym (numbered m ws s) ∙ n) in
-      (x .0, λ v. twelve (old m ws s) (wrong m ws s) .0 (x .1) (tested m ws s (x .0) .view .1 v)),
-  λ x. numbered m ws s ∙ by-last m ws s (x .0) ∙ twelve (old m ws s) (wrong m ws s) .1 (λ e. x .1 (tested m ws s (x .0) .view .0 e)),
-)
-
-pub history-refused : HistoryRefused
-unfolding others _and_
-history-refused m ws s = (
-  λ n.
-      let x = past m ws s 13 refl (sym (numbered m ws s) ∙ n) in
-      let y = thirteen (old m ws s) (wrong m ws s) .0 (x .1) in
-      (x .0, tested m ws s (x .0) .view .0 (y .0), λ h. y .1 (tested m ws s (x .0) .history .1 h)),
-  λ x. numbered m ws s ∙ by-last m ws s (x .0)
-      ∙ thirteen (old m ws s) (wrong m ws s) .1 (tested m ws s (x .0) .view .1 (x .1), λ e. x .2 (tested m ws s (x .0) .history .0 e)),
-)
+pub first-given : FirstGiven
+first-given m ws s k =
+    let x = in-turn m ws s k in
+    ((λ e. x .0 (sym (numbered m ws s) ∙ e)), (λ u. numbered m ws s ∙ x .1 u))

@@ -27,7 +27,7 @@ unfolding among
 among-some zero n e = absurd (false≢true e)
 among-some (suc k) n e = (omega arith, leb-true _ _ e)
 
-some-among : (k n : ℕ) → (1 ≤ k) × (k ≤ n) → among k n ≡ true
+pub some-among : (k n : ℕ) → (1 ≤ k) × (k ≤ n) → among k n ≡ true
 unfolding among
 some-among zero n h = absurd (omega arith)
 some-among (suc k) n h = le-leb _ _ (h .1)

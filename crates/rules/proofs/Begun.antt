@@ -127,6 +127,13 @@ opened false d m e = absurd (omega (arith, ap numberOf e))
 opened true false m e = absurd (omega (arith, ap numberOf e))
 opened true true m e = (refl, refl)
 
+-- the shape is what was asked for
+pub fresh-shape : (t c : ℕ) (plain flags : List ℕ) → openedOf t c plain flags .answer ≡ Ok
+    → openedOf t c plain flags .machine .shape ≡ record { threads = t; slots = c; plain = length plain; flags = length flags }
+unfolding openedOf fresh unmoved
+fresh-shape t c plain flags e =
+    ap (λ (m : Machine). m .shape) (opened (inShape t c (length plain) (length flags)) (weightsStand plain and weightsStand flags) (fresh t c plain flags) e .1)
+
 pub fresh-sound : (t c : ℕ) (plain flags : List ℕ) (ws : List Write) → openedOf t c plain flags .answer ≡ Ok
     → Sound (start (openedOf t c plain flags .machine) ws)
 unfolding openedOf start fresh unmoved Each

@@ -18,7 +18,7 @@ use Rattle.rules.proofs.Ringed.{stage, stages, status, Ringed}
 use Rattle.rules.proofs.Swapped.{room, full-now}
 use Rattle.rules.proofs.Updated.{Updated, changed}
 use Rattle.rules.specs.Log.{Call, Op, Seen, no-call, putting, taking, goes-in, comes-out, ins, outs, with, under, heard}
-use Rattle.rules.specs.Queue.{CoversNoted, Gets, Says, outside, put-goes-on, put-yes, put-no, take-goes-on, take-got, take-none, due}
+use Rattle.rules.specs.Queue.{CoversNoted, Gets, Says, access-ok, access-value, access-yes, access-no, put-goes-on, put-yes, put-no, take-goes-on, take-got, take-none, due}
 use Rattle.rank.specs.Rank.{slotOf, nextRank, freeStatus, lapped}
 use Rattle.standing.proofs.Bounds.{Bounds}
 use Rattle.state.specs.State.{cellsOf, row, place, firstOf, Whole}
@@ -108,12 +108,12 @@ module _ (m : Machine) (ws : List Write) (n : Seen) (i : ℕ) (W : Whole m) (B :
   pub list-moves : Moves m ws i (λ v a o us. Leaves (n .calls i) v a o)
   list-moves =
       record {
-        gets = λ b t v o e _ x. idle _ _ o e (outside, λ _. refl) (quiet Idle no-call o (all-calm m o (x .cells)) (x .goes .places) refl);
-        sets = λ b t v o us e _ x. idle _ _ o e (outside, λ _. refl) (quiet Idle no-call o (all-calm m o (x .cells)) (x .goes .places) refl);
-        loads = λ b f o e x. idle _ _ o e (outside, λ _. refl) (quiet Idle no-call o (all-calm m o (x .cells)) (x .goes .places) refl);
-        stores = λ b f v o e x. idle _ _ o e (outside, λ _. refl) (quiet Idle no-call o (flag-calm m i v Idle o f x) (x .goes .places) refl);
-        swap-wins = λ b f u v o e x. idle _ _ o e (outside, λ _. refl) (quiet Idle no-call o (flag-calm m i v Idle o f x) (x .goes .places) refl);
-        swap-loses = λ b f u v o e x. idle _ _ o e (outside, λ _. refl) (quiet Idle no-call o (all-calm m o (x .cells)) (x .goes .places) refl);
+        gets = λ b t v o e _ x. idle _ _ o e (access-value, λ _. refl) (quiet Idle no-call o (all-calm m o (x .cells)) (x .goes .places) refl);
+        sets = λ b t v o us e _ x. idle _ _ o e (access-ok, λ _. refl) (quiet Idle no-call o (all-calm m o (x .cells)) (x .goes .places) refl);
+        loads = λ b f o e x. idle _ _ o e (access-value, λ _. refl) (quiet Idle no-call o (all-calm m o (x .cells)) (x .goes .places) refl);
+        stores = λ b f v o e x. idle _ _ o e (access-ok, λ _. refl) (quiet Idle no-call o (flag-calm m i v Idle o f x) (x .goes .places) refl);
+        swap-wins = λ b f u v o e x. idle _ _ o e (access-yes, λ _. refl) (quiet Idle no-call o (flag-calm m i v Idle o f x) (x .goes .places) refl);
+        swap-loses = λ b f u v o e x. idle _ _ o e (access-no, λ _. refl) (quiet Idle no-call o (all-calm m o (x .cells)) (x .goes .places) refl);
         put-begins = λ w o e x. idle _ _ o e (put-goes-on (omega arith), λ _. refl) (quiet (PutStatus _ _) (putting w 1 0) o (all-calm m o (x .cells)) (x .goes .places) refl);
         put-sees = λ h w o e d x. by-call (putting w 1 0) _ _ o (mark (PutStatus h w) e)
             ((put-goes-on (omega arith), λ _. refl), quiet (PutSwap h w) (putting w 2 0) o (all-calm m o (x .cells)) (x .goes .places) refl);

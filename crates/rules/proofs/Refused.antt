@@ -1,12 +1,12 @@
 -- The number that a step is answered with, what a refused step keeps, and what a taken one counts. Assumes nothing.
-use mathlib.Core.Path.{_≡_, refl}
+use mathlib.Core.Path.{_≡_, refl, sym, _∙_}
 use mathlib.Core.Bool.{Bool, true, false}
 use mathlib.Core.List.{List}
 use Prim.Native.Nat.{ℕ, zero, suc, _+_, _-_, _<_}
 use native.Mathlib.Omega.{arith}
 use Rattle.atomic.specs.Atomic.{swappedOf}
-use Rattle.refusal.proofs.Passed.{number-in}
-use Rattle.rules.specs.Kept.{Numbered, StepNumbered, RefusedKeeps, TakenCounts}
+use Rattle.refusal.proofs.Passed.{passed, number-in}
+use Rattle.rules.specs.Kept.{numberGiven, Numbered, StepNumbered, RefusedKeeps, TakenCounts}
 use Rattle.rules.specs.Calls.{goesOn, looks, swaps, closes, resumed, yesIf, acted}
 use Rattle.rules.specs.Step.{takenBy, decidedBy, refusalOf, decidedOf, stepOf}
 use Rattle.state.specs.State.{place}
@@ -99,3 +99,8 @@ decided-counts r m s a f e = rw e
 pub taken-counts : TakenCounts
 unfolding stepOf decidedOf
 taken-counts m ws s e = decided-counts (refusalOf m ws s) m s _ _ (omega (arith, numbered m ws s))
+
+-- The thread of a taken step counts from 1.
+pub taken-thread : (m : Machine) (ws : List Write) (s : Step) → numberGiven m ws s ≡ 0 → 0 < s .thread
+unfolding refusalOf
+taken-thread m ws s e = passed _ _ _ _ _ _ (sym (numbered m ws s) ∙ e) .0 .thread .0

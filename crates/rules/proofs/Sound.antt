@@ -5,6 +5,7 @@ use mathlib.Core.List.{List, [], _∷_}
 use Prim.Native.Nat.{ℕ, _+_, _≤_}
 use native.Mathlib.Omega.{arith}
 use Rattle.rules.proofs.Kept.{standing-kept}
+use Rattle.rules.proofs.Refused.{taken-thread}
 use Rattle.rules.proofs.Room.{room-kept}
 use Rattle.rules.proofs.Whole.{whole-kept}
 use Rattle.rules.specs.Step.{stepOf}
@@ -81,7 +82,7 @@ module _ (p : Point) (S : Sound p) (s : Step) where
   listed =
       by-moves m ws s
       (λ v a k us. Owed (m .shape .slots) (cellsOf m) n (row k i) (n .calls i) v a × ListedAt (m .shape .slots) k (after v a (row k i)))
-      (S .whole) (λ k. ((refused, λ e. absurd (omega arith)), S .list))
+      (S .whole) (λ k. ((refused (omega arith), λ e. absurd (omega arith)), S .list))
       (λ _. list-moves m ws n i (S .whole) B (S .ring) (S .memory) (S .list))
 
   pub kept : Sound (next p s)
@@ -105,7 +106,7 @@ module _ (p : Point) (S : Sound p) (s : Step) where
             (subst (λ (x : ℕ → ℕ). Recalled (cellsOf m) x o us) (sym f)
             (by-moves m ws s (λ v a n xs. Recalled (cellsOf m) (firstOf m) n xs) (S .whole) (λ k. S .recall) (λ _. recall-moves m ws i (S .whole) B (S .recall))));
         right = subst (λ (x : Shape). RightBy x (entryOf s (stepOf m ws s) ∷ p .log)) (sym (r .shape))
-            (record { says = listed .0 .0; in-turn = listed .0 .1 }, S .right);
+            (record { says = listed .0 .0; by-thread = taken-thread m ws s; in-turn = listed .0 .1 }, S .right);
         spare = λ j l. let h : m .shape .threads ≤ j = subst (λ (x : Shape). x .threads ≤ j) (r .shape) l in r .threads j h .1 ∙ S .spare j h;
       }
     where

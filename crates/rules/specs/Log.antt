@@ -1,4 +1,4 @@
--- A run from a fresh machine and its log: what anyone can see of it, and what is read off it. Assumes nothing.
+-- A run from a fresh machine and its log: lines, answers and views, and what is read off them. Assumes nothing.
 use mathlib.Core.Path.{_≡_}
 use mathlib.Core.Bool.{cond}
 use mathlib.Core.List.{List, [], _∷_, _++_}
@@ -30,7 +30,7 @@ pub record Point : Type 0 where
   pub writes : List Write
   pub log : List Entry
 
--- the thread of a step, from 0
+-- the thread of a step, from 0; a line of thread 0, which is never taken, falls together with those of thread 1
 abbrev pub threadOf : Step → ℕ
 threadOf s = s .thread - 1
 
@@ -50,13 +50,15 @@ through p (s ∷ ss) = through (next p s) ss
 unfoldable pub start : Machine → List Write → Point
 start m ws = record { machine = m; writes = ws; log = [] }
 
--- "From a fresh machine, over any steps, refused ones included, nobody else touching state or writes": at every point reached.
-abbrev pub Throughout : (Point → Type 0) → Type 0
+-- "From a fresh machine, over any steps, refused ones included, nobody else touching state or writes": at every point reached, with the
+-- numbers of plain cells and slots that were opened.
+abbrev pub Throughout : (ℕ → ℕ → Point → Type 0) → Type 0
 Throughout P =
     (t c : ℕ) (plain flags : List ℕ) (ws : List Write) (ss : List Step) → openedOf t c plain flags .answer ≡ Ok
-    → P (through (start (openedOf t c plain flags .machine) ws) ss)
+    → P (length plain) c (through (start (openedOf t c plain flags .machine) ws) ss)
 
--- The call that a thread is in, by its own lines: none, a put of a weight, or a take; the steps that it has had, and its rank from its third on.
+-- The call that a thread is in, by its own lines: none, a put of a weight, or a take; then the steps that it has had, and its rank, 0 before
+-- its third.
 pub data Call : Type 0 where
   no-call : Call
   putting : ℕ → ℕ → ℕ → Call

@@ -10,11 +10,11 @@ use Rattle.rules.specs.Kept.{numberGiven}
 use Rattle.rules.specs.Log.{Entry, Point, Throughout, Call, Op, Seen, threadOf, no-call, putting, taking, goes-in, comes-out, ins, outs, callIn, seen}
 use Rattle.rules.specs.Step.{contentOf}
 use Rattle.rank.specs.Rank.{slotOf}
-use Rattle.state.specs.State.{cellsOf, row}
+use Rattle.state.specs.State.{row}
 use Rattle.state.specs.declared.Machine.{Machine}
 use Rattle.step.specs.Answer.{numberOf}
 use Rattle.step.specs.declared.Answer.{Answer}
-use Rattle.step.specs.declared.Answer.the-variants.{Dash, Value, Yes, No, None, Got, Refused}
+use Rattle.step.specs.declared.Answer.the-variants.{Dash, Ok, Value, Yes, No, None, Got, Refused}
 use Rattle.step.specs.declared.Step.{Step}
 use Rattle.step.specs.declared.Verb.the-variants.{GoAt}
 use Rattle.verbs.specs.Verbs.{asks}
@@ -60,10 +60,13 @@ pub record Gets (c m : ℕ) (n : Seen) (v : View) (k r w : ℕ) : Type 0 where
   pub covers : CoversNoted m (n .published r) v
 
 -- 1. "the won calls' answers are those of" that list, "a call answered no or none leaves that list as it was": what a call may be answered,
--- k steps before, and nothing else. One that has had three steps has won.
+-- k steps before, and nothing else; one that has had three steps has won. Outside a call, an access.
 pub data Says (c m : ℕ) (n : Seen) (v : View) : Call → Answer → Type 0 where
-  outside : {a : Answer} → Says c m n v no-call a
-  refused : {q : Call} {k : ℕ} → Says c m n v q (Refused k)
+  refused : {q : Call} {k : ℕ} → 0 < k → Says c m n v q (Refused k)
+  access-ok : Says c m n v no-call Ok
+  access-value : {x : ℕ} → Says c m n v no-call (Value x)
+  access-yes : Says c m n v no-call Yes
+  access-no : Says c m n v no-call No
   put-goes-on : {w k r : ℕ} → k < 4 → Says c m n v (putting w k r) Dash
   put-yes : {w k r : ℕ} → 3 ≤ k → Says c m n v (putting w k r) Yes
   put-no : {w k r : ℕ} → k < 3 → Says c m n v (putting w k r) No
@@ -80,6 +83,7 @@ due (taking k r) = cond (eqb k 3) 2 1
 -- What is promised of an entry, by the log before it. A taken line is due: so each call ends once, and after that a `go` is refused.
 pub record Right (c m : ℕ) (e : Entry) (es : List Entry) : Type 0 where
   pub says : Says c m (seen es) (e .view) (callIn (seen es) (e .step)) (e .answer)
+  pub by-thread : numberOf (e .answer) ≡ 0 → 0 < e .step .thread
   pub in-turn : numberOf (e .answer) ≡ 0 → asks (e .step .verb) ≡ due (seen es .calls (threadOf (e .step)))
 
 -- each entry of a log
@@ -95,34 +99,35 @@ abbrev pub showing : Option View → ℕ → Answer
 showing none w = Dash
 showing (some u) w = Value w
 
--- Demand 3 of a machine with C slots, head and tail, its list of writes, the log, and what is read off it.
-pub record Ordered (m : Machine) (c h t : ℕ) (ws : List Write) (es : List Entry) (n : Seen) : Type 0 where
+-- Demand 3 of a machine that was opened with b plain cells and c slots: its head and tail, its list of writes, the log, and what is read off it.
+pub record Ordered (m : Machine) (b c h t : ℕ) (ws : List Write) (es : List Entry) (n : Seen) : Type 0 where
   -- 1. "Let each put count at its head swap, each take at its tail swap": that list never overflows, and nothing is taken from it empty.
   pub line : Line
   pub plain-list : plain c (n .ops) ≡ some line
   -- 1, 3, 4.
-  pub right : Each (Right c (cellsOf m)) es
+  pub right : Each (Right c (b + c)) es
   -- 2. "Tail never passes head, nor head tail plus C."
   pub low : t ≤ h
   pub high : h ≤ t + c
-  -- 3. "Each rank is taken at most once": head counts the won head swaps, and tail the won tail swaps.
+  -- 3. "Each rank is taken at most once": a won swap has the next rank of its kind, and head and tail are their numbers.
   pub puts : h ≡ length (ins (n .ops))
   pub takes : t ≡ outs (n .ops)
   -- So the report's queue is that list: its weights stand at the ranks from tail to head less one, or "-" exactly while a putter has no `yes`.
   pub reaches : h ≡ t + length (line .inside)
   pub contents : (j w : ℕ) → getElem? (line .inside) j ≡ some w → contentOf m ws (t + j) ≡ showing (n .published (t + j)) w
   -- 4. A take's view covers the putter's already from its won swap on.
-  pub covering : (i k r : ℕ) → n .calls i ≡ taking k r → 3 ≤ k → CoversNoted (cellsOf m) (n .published r) (row m i)
-  -- 5. "While a take waits to read its slot, at most one stamp is accepted": its own view's of that slot, and that is, steps allowing.
+  pub covering : (i k r : ℕ) → n .calls i ≡ taking k r → 3 ≤ k → CoversNoted (b + c) (n .published r) (row m i)
+  -- 5. "While a take waits to read its slot", three steps before, "at most one stamp is accepted": its own view's of that slot, and that is,
+  -- steps allowing.
   pub one-stamp : (i r a : ℕ) → n .calls (i - 1) ≡ taking 3 r → numberGiven m ws (goAt i a) ≡ 0
-      → a ≡ stampOf (row m (i - 1)) (m .shape .plain + slotOf c r)
+      → a ≡ stampOf (row m (i - 1)) (b + slotOf c r)
   pub own-stamp : (i r : ℕ) → n .calls (i - 1) ≡ taking 3 r → 0 < i → m .steps < 4096
-      → numberGiven m ws (goAt i (stampOf (row m (i - 1)) (m .shape .plain + slotOf c r))) ≡ 0
+      → numberGiven m ws (goAt i (stampOf (row m (i - 1)) (b + slotOf c r))) ≡ 0
 
-abbrev pub Queue : Point → Type 0
-Queue p =
+abbrev pub Queue : ℕ → ℕ → Point → Type 0
+Queue b c p =
     let m = p .machine in
-    Ordered m (m .shape .slots) (m .head .value) (m .tail .value) (p .writes) (p .log) (seen (p .log))
+    Ordered m b c (m .head .value) (m .tail .value) (p .writes) (p .log) (seen (p .log))
 
 abbrev pub QueueHolds : Type 0
 QueueHolds = Throughout Queue

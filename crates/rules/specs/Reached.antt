@@ -8,7 +8,7 @@ use Rattle.accesses.specs.Accesses.{present}
 use Rattle.rules.specs.Kept.{numberGiven}
 use Rattle.rules.specs.Step.{asked}
 use Rattle.rules.specs.Log.{Point, Throughout, threadOf}
-use Rattle.state.specs.State.{cellsOf, row, atomicAt, firstOf}
+use Rattle.state.specs.State.{row, atomicAt, firstOf}
 use Rattle.state.specs.declared.Machine.{Machine}
 use Rattle.state.specs.declared.Name.{Name}
 use Rattle.step.specs.declared.Step.{Step}
@@ -23,25 +23,25 @@ use Rattle.writes.specs.declared.Write.{Write}
 abbrev pub InHistory : Machine → List Write → ℕ → ℕ → Type 0
 InHistory m ws c t = present (found (firstOf m (c - 1)) ws c t (m .held)) ≡ true
 
--- every stamp of a view is in its cell's history
-abbrev pub AllInHistory : Machine → List Write → View → Type 0
-AllInHistory m ws v = (j : ℕ) → j < cellsOf m → InHistory m ws (j + 1) (stampOf v j)
+-- every stamp of a view of k cells is in its cell's history
+abbrev pub AllInHistory : ℕ → Machine → List Write → View → Type 0
+AllInHistory k m ws v = (j : ℕ) → j < k → InHistory m ws (j + 1) (stampOf v j)
 
 -- Every stamp of every view is in that cell's history: of the threads' views, and of the atomic cells'.
-abbrev pub ViewsKnown : Point → Type 0
-ViewsKnown p =
-    ((i : ℕ) → AllInHistory (p .machine) (p .writes) (row (p .machine) i))
-    × ((a : Name) → AllInHistory (p .machine) (p .writes) (atomicAt (p .machine) a .view))
+abbrev pub ViewsKnown : ℕ → Point → Type 0
+ViewsKnown k p =
+    ((i : ℕ) → AllInHistory k (p .machine) (p .writes) (row (p .machine) i))
+    × ((a : Name) → AllInHistory k (p .machine) (p .writes) (atomicAt (p .machine) a .view))
 
 -- no stamp of a view is above the newest of its cell's history
-abbrev pub NonePast : Machine → List Write → View → Type 0
-NonePast m ws v = (j : ℕ) → j < cellsOf m → stampOf v j ≤ newest (firstOf m (j + 1 - 1)) ws (j + 1) (m .held) .stamp
+abbrev pub NonePast : ℕ → Machine → List Write → View → Type 0
+NonePast k m ws v = (j : ℕ) → j < k → stampOf v j ≤ newest (firstOf m (j + 1 - 1)) ws (j + 1) (m .held) .stamp
 
 -- So all views lie under the newest stamps.
-abbrev pub ViewsUnder : Point → Type 0
-ViewsUnder p =
-    ((i : ℕ) → NonePast (p .machine) (p .writes) (row (p .machine) i))
-    × ((a : Name) → NonePast (p .machine) (p .writes) (atomicAt (p .machine) a .view))
+abbrev pub ViewsUnder : ℕ → Point → Type 0
+ViewsUnder k p =
+    ((i : ℕ) → NonePast k (p .machine) (p .writes) (row (p .machine) i))
+    × ((a : Name) → NonePast k (p .machine) (p .writes) (atomicAt (p .machine) a .view))
 
 -- The stamps of one cell's history are distinct: those of its held records, and the first write's 0.000.
 abbrev pub Distinct : Point → Type 0
@@ -56,11 +56,12 @@ Unstuck p =
     (s : Step) (c : ℕ) → asked (p .machine) s ≡ Reads c (stampOf (row (p .machine) (threadOf s)) (c - 1))
     → (numberGiven (p .machine) (p .writes) s ≢ 12) × (numberGiven (p .machine) (p .writes) s ≢ 13)
 
-pub record Reached (p : Point) : Type 0 where
-  pub views-known : ViewsKnown p
-  pub views-under : ViewsUnder p
+-- of k cells, as many as were opened
+pub record Reached (k : ℕ) (p : Point) : Type 0 where
+  pub views-known : ViewsKnown k p
+  pub views-under : ViewsUnder k p
   pub distinct : Distinct p
   pub unstuck : Unstuck p
 
 abbrev pub ReachedHolds : Type 0
-ReachedHolds = Throughout Reached
+ReachedHolds = Throughout (λ b c p. Reached (b + c) p)
