@@ -2,15 +2,15 @@
 //! and gives them.
 
 use crate::machine::{
-    Act, Answer, Atomic, Machine, Place, Refusal, Step, MOST_FLAGS, MOST_PLAIN, MOST_SLOTS,
-    MOST_THREADS, ROW,
+    Act, Answer, Atomic, Machine, Place, Step, MOST_FLAGS, MOST_PLAIN, MOST_SLOTS, MOST_THREADS,
+    ROW,
 };
 
 const SIZES: usize = 6;
-const THREAD: usize = 3 + ROW;
+pub const THREAD: usize = 3 + ROW;
 const ATOMIC: usize = 1 + ROW;
-const THREADS: usize = SIZES + MOST_PLAIN;
-const ATOMICS: usize = THREADS + MOST_THREADS * THREAD;
+pub const THREADS: usize = SIZES + MOST_PLAIN;
+pub const ATOMICS: usize = THREADS + MOST_THREADS * THREAD;
 
 /// Length of a state's image: sizes, first values, threads, then head, tail,
 /// flags and statuses.
@@ -96,22 +96,21 @@ pub fn step_words(step: Step) -> [u32; 5] {
     [step.thread, form, a, b, c]
 }
 
-/// Kind and number.
-pub fn answer_words(answer: Result<Answer, Refusal>) -> [u32; 2] {
+/// Kind and value.
+pub fn answer_words(answer: Answer) -> [u32; 2] {
     match answer {
-        Ok(Answer::Dash) => [0, 0],
-        Ok(Answer::Ok) => [1, 0],
-        Ok(Answer::Value(value)) => [2, value],
-        Ok(Answer::Yes) => [3, 0],
-        Ok(Answer::No) => [4, 0],
-        Ok(Answer::Nothing) => [5, 0],
-        Ok(Answer::Got(weight)) => [6, weight],
-        Err(refusal) => [7, u32::from(refusal.number())],
+        Answer::Dash => [0, 0],
+        Answer::Ok => [1, 0],
+        Answer::Value(value) => [2, value],
+        Answer::Yes => [3, 0],
+        Answer::No => [4, 0],
+        Answer::Nothing => [5, 0],
+        Answer::Got(weight) => [6, weight],
     }
 }
 
 /// The kinds of answer in the order of their numbers.
-pub const KINDS: [&str; 8] = ["-", "ok", "value", "yes", "no", "none", "got", "refused"];
+pub const KINDS: [&str; 7] = ["-", "ok", "value", "yes", "no", "none", "got"];
 
 #[cfg(test)]
 mod tests {

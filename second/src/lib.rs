@@ -1,5 +1,6 @@
 //! An independent schedule runner, written from document 01 alone.
 
+pub mod call;
 pub mod damage;
 pub mod image;
 pub mod machine;

@@ -29,6 +29,6 @@ abbrev pub swapIf : Bool → Machine → ℕ → Name → ℕ → Swapped
 swapIf true m i a new = record { won = true; machine = writeAtomic m i a new }
 swapIf false m i a new = record { won = false; machine = readAtomic m i a }
 
--- Swap: if the value equals the old one given, an atomic write, answer yes; otherwise an atomic read, answer no.
+-- Swap: won where the value equals the old one given, an atomic write; otherwise lost, an atomic read.
 unfoldable pub swappedOf : Machine → ℕ → Name → ℕ → ℕ → Swapped
 swappedOf m i a old new = swapIf (eqb (atomicAt m a .value) old) m i a new

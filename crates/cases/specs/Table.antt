@@ -202,6 +202,31 @@ output =
     ∷ "13 12"
     ∷ []
 
+-- a put on its way: its rank shows as `-`, and nothing is refused
+abbrev pub wayIn : List String
+wayIn =
+    "shape 2"
+    ∷ "threads 1"
+    ∷ "slots 1"
+    ∷ "plain 0"
+    ∷ "flag 0"
+    ∷ "steps 3"
+    ∷ "1 put 5.000"
+    ∷ "1 go"
+    ∷ "1 go"
+    ∷ []
+
+abbrev pub wayOut : List String
+wayOut =
+    "answers 3"
+    ∷ "1 -"
+    ∷ "1 -"
+    ∷ "1 -"
+    ∷ "queue 1"
+    ∷ "0 -"
+    ∷ "refused 0"
+    ∷ []
+
 unfoldable pub table : List Row
 table =
     -- `1.500` is 1500
@@ -222,6 +247,9 @@ table =
     ∷ played unpublished
     ∷ played listing
     ∷ report (lines input) gives prints (lines output)
+    ∷ report (lines wayIn) gives prints (lines wayOut)
+    -- A text refusal prints only one line.
+    ∷ report (bytes "") gives prints (line "text 2 0")
     ∷ []
 
 -- each row's reply is the definitions'

@@ -47,10 +47,10 @@ parts a b c d e f g la lb lc ld le lf =
     }
 
 module _ (m : Machine) (w : Whole m) where
-  thread-length : (i : ℕ) → length (threadWords m i) ≡ 35
+  pub thread-length : (i : ℕ) → length (threadWords m i) ≡ 35
   thread-length i = omega (arith, length-append (placeWords (place m i)) (row m i .at), place-length (place m i), w .rows i)
 
-  cell-length : (a : Name) → length (atomicWords (atomicAt m a)) ≡ 33
+  pub cell-length : (a : Name) → length (atomicWords (atomicAt m a)) ≡ 33
   cell-length a = omega (arith, w .seen a)
 
   parted : Parts (wordsOf m) (m .firsts) (inTurn (threadWords m) 8) (atomicWords (atomicAt m Head)) (atomicWords (atomicAt m Tail))
@@ -62,6 +62,9 @@ module _ (m : Machine) (w : Whole m) where
 
   thread-has : (i : ℕ) → i < 8 → Has (wordsOf m) (threadAt i) (threadWords m i)
   thread-has i h = has-in (parted .threads) (has-turn (threadWords m) 35 thread-length 8 i h)
+
+  pub place-has : (i : ℕ) → i < 8 → Has (wordsOf m) (threadAt i) (placeWords (place m i))
+  place-has i h = has-first _ (row m i .at) (thread-has i h)
 
   flag-has : (i : ℕ) → i < 8 → Has (wordsOf m) (cellAt (Flag i)) (atomicWords (atomicAt m (Flag i)))
   flag-has i h = has-in (parted .flags) (has-turn (λ j. atomicWords (atomicAt m (Flag j))) 33 (λ j. cell-length (Flag j)) 8 i h)
@@ -93,15 +96,15 @@ image-long m w =
 
 pub image-faithful : ImageFaithful
 unfolding wordsOf row place atomicAt
-image-faithful m w =
-    fields (wordsOf m) m refl refl refl refl refl refl
-    (filled-whole (m .firsts) 16 _ 0 0 (w .firsts) (λ i h. parted m w .firsts .same i (omega arith)))
-    (filled-whole (m .views) 8 _ zeroView zeroView (w .views) (λ i h. view-back _ _ _ (w .rows i) (view-has m w i h)))
-    (filled-whole (m .threads) 8 _ (at Idle) (at Idle) (w .threads) (λ i h. ap at (place-back _ _ _ (has-first _ (row m i .at) (thread-has m w i h)))))
-    (atomic-back _ _ _ (w .seen Head) (parted m w .head))
-    (atomic-back _ _ _ (w .seen Tail) (parted m w .tail))
-    (filled-whole (m .flags) 8 _ zeroAtomic zeroAtomic (w .flags) (λ i h. atomic-back _ _ _ (w .seen (Flag i)) (flag-has m w i h)))
-    (filled-whole (m .statuses) 16 _ zeroAtomic zeroAtomic (w .statuses) (λ i h. atomic-back _ _ _ (w .seen (Status i)) (status-has m w i h)))
+image-faithful m rest w =
+    fields (wordsOf m ++ rest) m refl refl refl refl refl refl
+    (filled-whole (m .firsts) 16 _ 0 0 (w .firsts) (λ i h. has-front rest (parted m w .firsts) .same i (omega arith)))
+    (filled-whole (m .views) 8 _ zeroView zeroView (w .views) (λ i h. view-back _ _ _ (w .rows i) (has-front rest (view-has m w i h))))
+    (filled-whole (m .threads) 8 _ (at Idle) (at Idle) (w .threads) (λ i h. ap at (place-back _ _ _ (has-front rest (place-has m w i h)))))
+    (atomic-back _ _ _ (w .seen Head) (has-front rest (parted m w .head)))
+    (atomic-back _ _ _ (w .seen Tail) (has-front rest (parted m w .tail)))
+    (filled-whole (m .flags) 8 _ zeroAtomic zeroAtomic (w .flags) (λ i h. atomic-back _ _ _ (w .seen (Flag i)) (has-front rest (flag-has m w i h))))
+    (filled-whole (m .statuses) 16 _ zeroAtomic zeroAtomic (w .statuses) (λ i h. atomic-back _ _ _ (w .seen (Status i)) (has-front rest (status-has m w i h))))
 
 -- what every entry read and every entry of the room has, every entry has
 read-each : {A : Type 0} (P : A → Type 0) (f : ℕ → A) (n : ℕ) (room : List A) (d : A) → ((i : ℕ) → P (f i)) → ((i : ℕ) → P (getD room i d))

@@ -1,3 +1,5 @@
 pub mod Inside
 pub mod Faithful
+pub mod Only
+pub mod Taken
 pub mod Determined

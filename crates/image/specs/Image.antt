@@ -1,8 +1,11 @@
 -- The state as an image of numbers, 1,160 words. Assumes nothing.
+use mathlib.Core.Bool.{Bool}
 use mathlib.Core.List.{List, [], _∷_, _++_}
 use Prim.Native.Nat.{ℕ, zero, suc, _+_, _*_}
-use lib.ListN.{getD, replicate}
+use lib.Dec.{leb, eqb}
+use lib.ListN.{length, getD, replicate}
 use Rattle.laws.specs.Lists.{filled}
+use Rattle.laws.specs.Tests.{_and_, allBelow}
 use Rattle.state.specs.State.{atomic, zeroAtomic, at, row, place, atomicAt}
 use Rattle.state.specs.declared.Atomic.{Atomic}
 use Rattle.state.specs.declared.Machine.{Machine}
@@ -105,3 +108,11 @@ machineOf s =
       flags = filled (λ i. atomicFrom s (cellAt (Flag i))) 8 (replicate 8 zeroAtomic);
       statuses = filled (λ i. atomicFrom s (cellAt (Status i))) 16 (replicate 16 zeroAtomic);
     }
+
+-- The three words from p on are those of a place: its number is known, and a word that it does not note is 0.
+unfoldable pub isPlace : List ℕ → ℕ → Bool
+isPlace s p = allBelow (λ i. eqb (word s (p + i)) (word (placeWords (placeFrom s p)) i)) 3
+
+-- Words that begin with an image: 1,160 of them or more, each of the 8 threads at a place. What follows the image is not judged.
+unfoldable pub isImage : List ℕ → Bool
+isImage s = leb 1160 (length s) and allBelow (λ i. isPlace s (threadAt i)) 8

@@ -1,8 +1,8 @@
-// The state as an image of numbers, read.
+// The state as an image of numbers, judged and read.
 ghost use mathlib.Core.Path.{_≡_};
 ghost use Prim.Native.Nat.{_<_, _≤_};
 ghost use lib.ListN.{replicate};
-ghost use Rattle.image.specs.Image.{placeOf, firstAt, threadAt, viewAt, cellAt, word, viewFrom, atomicFrom, placeFrom, machineOf};
+ghost use Rattle.image.specs.Image.{placeWords, placeOf, firstAt, threadAt, viewAt, cellAt, word, viewFrom, atomicFrom, placeFrom, machineOf, isPlace, isImage};
 ghost use Rattle.laws.specs.Lists.{filled};
 ghost use Rattle.state.specs.State.{zeroAtomic, at};
 ghost use Rattle.state.specs.declared.Name.the-variants.{Flag, Status};
@@ -64,6 +64,57 @@ fn place_from(s: &[u32], p: usize) -> Place
     let rank = number_at(s, p + 1);
     let weight = number_at(s, p + 2);
     place_of(n as usize, rank, weight)
+}
+
+// A place in its three words.
+pub fn place_words(p: Place) -> [u32; 3]
+    ensures { λ r. ⌜ r ≡ placeWords p ⌝ }
+{
+    match p {
+        Place::Idle => [0, 0, 0],
+        Place::PutStatus { rank, weight } => [1, rank, weight],
+        Place::PutSwap { rank, weight } => [2, rank, weight],
+        Place::PutWrite { rank, weight } => [3, rank, weight],
+        Place::PutPublish { rank } => [4, rank, 0],
+        Place::TakeStatus { rank } => [5, rank, 0],
+        Place::TakeSwap { rank } => [6, rank, 0],
+        Place::TakeRead { rank } => [7, rank, 0],
+        Place::TakeFree { rank, weight } => [8, rank, weight],
+    }
+}
+
+// The three words from p on are those of a place.
+fn is_place(s: &[u32], p: usize) -> bool
+    requires { ⌜ p < 1160 ⌝ }
+    ensures { λ r. ⌜ r ≡ isPlace (now (s .entry)) p ⌝ }
+{
+    let words = place_words(place_from(s, p));
+    let mut i: usize = 0;
+    while i < 3 {
+        if number_at(s, p + i) != words[i] {
+            return false;
+        }
+        i += 1;
+    }
+    true
+}
+
+// The numbers begin with an image: they are enough, and each thread's place is one.
+pub fn is_image(s: &[u32]) -> bool
+    ensures { λ r. ⌜ r ≡ isImage (now (s .entry)) ⌝ }
+{
+    if s.len() < 1160 {
+        return false;
+    }
+    let mut i: usize = 0;
+    while i < 8 {
+        let ok = is_place(s, 22 + 35 * i);
+        if !ok {
+            return false;
+        }
+        i += 1;
+    }
+    true
 }
 
 fn firsts_from(s: &[u32]) -> [u32; 16]

@@ -1,2 +1,5 @@
-pub mod Called
+pub mod Left
+pub mod Kept
+pub mod Leaves
+pub mod Steps
 pub mod Determined

@@ -1,17 +1,31 @@
 -- What is asked of a step and what it is answered, as numbers. Assumes nothing.
+use mathlib.Core.Bool.{Bool}
 use mathlib.Core.List.{List, [], _∷_}
 use Prim.Native.Nat.{ℕ}
-use lib.ListN.{getD}
+use lib.Dec.{leb, ltb}
+use lib.ListN.{length, getD}
 use Rattle.form.specs.Line.{verbOf}
+use Rattle.form.specs.Table.{stepForms}
+use Rattle.laws.specs.Tests.{_and_}
 use Rattle.step.specs.declared.Answer.{Answer}
 use Rattle.step.specs.declared.Answer.the-variants.{Dash, Ok, Value, Yes, No, None, Got, Refused}
 use Rattle.step.specs.declared.Step.{Step}
+use Rattle.step.specs.declared.Verb.the-variants.{Go}
 
--- A step is asked as thread, row of the table of line forms and three operands; a number that is lacking is 0.
+-- A step is asked as thread, row of the table of line forms and three operands.
 unfoldable pub stepAsked : List ℕ → Step
 stepAsked s = record { thread = getD s 0 0; verb = verbOf (getD s 1 0) (getD s 2 0) (getD s 3 0) (getD s 4 0) }
 
--- An answer is its kind and its number: the value, the weight or the refusal's number, else 0.
+-- Numbers that ask a step: five or more, the second a row of a step's form.
+unfoldable pub isAsked : List ℕ → Bool
+isAsked s = leb 5 (length s) and ltb (getD s 1 0) stepForms
+
+-- A step of thread 0, which no state takes: what a refused call asks of the machine.
+abbrev pub noStep : Step
+noStep = record { thread = 0; verb = Go }
+
+-- An answer is its kind and its number: the value, the weight or the refusal's number, else 0. A refusal's words are never written, since
+-- a refused call writes nothing.
 abbrev pub answerWords : Answer → List ℕ
 answerWords Dash = 0 ∷ 0 ∷ []
 answerWords Ok = 1 ∷ 0 ∷ []

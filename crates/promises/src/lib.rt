@@ -12,7 +12,8 @@ ghost use Rattle.rules.specs.Queue.{QueueHolds};
 ghost use Rattle.rules.specs.Reached.{ReachedHolds};
 ghost use Rattle.run.specs.Prefix.{RanThrough};
 ghost use Rattle.reported.specs.Promise.{ReportShort, ReportWhole};
-ghost use Rattle.image.specs.Promise.{ImageLong, ImageFaithful, ImageWhole};
+ghost use Rattle.image.specs.Promise.{ImageLong, ImageFaithful, ImageWhole, ImageTaken, ImageOnly};
+ghost use Rattle.outside.specs.Promise.{CallOrdered, CallNumbered, CallKeeps, CallTakes};
 ghost use Rattle.promises.specs.Shown.{ReportShows};
 ghost use Rattle.promises.specs.Writing.{WrittenBack, OnlyItsBytes, RefusedUntouched, PrintedUntouched, SaidPrinted};
 
@@ -111,9 +112,16 @@ pub fn no_thread_is_stuck()
     ensures { λ r. ⌜ ReachedHolds ⌝ }
 {}
 
-// The image of a state loses nothing: a state that is read from its image is that state. Whatever is read is a state.
+// The image of a state loses nothing: a state that is read from its image is that state. Whatever is read is a state. Each state has one
+// image, and nothing else is taken for one.
 pub fn images_are_faithful()
-    ensures { λ r. ⌜ ImageLong × ImageFaithful × ImageWhole ⌝ }
+    ensures { λ r. ⌜ ImageLong × ImageFaithful × ImageWhole × ImageTaken × ImageOnly ⌝ }
+{}
+
+// A call from outside returns 0 or a refusal's number. A refused one keeps all that it is lent; a taken one leaves the image of the state
+// that the step leaves.
+pub fn calls_keep_or_take()
+    ensures { λ r. ⌜ CallOrdered × CallNumbered × CallKeeps × CallTakes ⌝ }
 {}
 
 // Every report fits the room that the program has for it, the first line 64 bytes and the others 131,072, so nothing of one is lost.

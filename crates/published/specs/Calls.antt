@@ -75,7 +75,7 @@ dequeue2 s t = reads-at (status s t) (λ x. ifCode (eqb x (2 * t + 1)) (dequeue3
 abbrev pub tryDequeue : Shape → Code
 tryDequeue s = reads-at Tail (λ t. dequeue2 s t)
 
--- what is left of a thread's call
+-- what is left of a thread's call; of one that is idle nothing, which no line runs
 abbrev pub restOf : Shape → Place → Code
 restOf s Idle = answers Dash
 restOf s (PutStatus h w) = enqueue2 s w h

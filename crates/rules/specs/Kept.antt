@@ -53,7 +53,7 @@ FreshStands =
     (t c : ℕ) (plain flags : List ℕ) (ws : List Write) → numberOf (openedOf t c plain flags .answer) ≡ 0
     → stands (openedOf t c plain flags .machine) ws ≡ true
 
--- A fresh machine is as long as its arrays, and a step leaves it so.
+-- A fresh machine's lists are as long as its arrays, and a step leaves them so.
 abbrev pub FreshWhole : Type 0
 FreshWhole = (t c : ℕ) (plain flags : List ℕ) → Whole (openedOf t c plain flags .machine)
 
@@ -73,7 +73,7 @@ Lacks s Tail = ⊥
 Lacks s (Flag f) = s .flags ≤ f
 Lacks s (Status i) = s .slots ≤ i
 
--- Room for threads, cells, flags or slots that this machine lacks: no step changes it.
+-- What no step changes: the shape, the first values, and room for threads, cells, flags or slots that this machine lacks.
 pub record SameRoom (m n : Machine) : Type 0 where
   pub shape : n .shape ≡ m .shape
   pub firsts : n .firsts ≡ m .firsts

@@ -57,8 +57,7 @@ Throughout P =
     (t c : ℕ) (plain flags : List ℕ) (ws : List Write) (ss : List Step) → openedOf t c plain flags .answer ≡ Ok
     → P (length plain) c (through (start (openedOf t c plain flags .machine) ws) ss)
 
--- The call that a thread is in, by its own lines: none, a put of a weight, or a take; then the steps that it has had, and its rank, 0 before
--- its third.
+-- The call that a thread is in, by its own lines: none, a put of a weight, or a take; with the steps it has had and its rank, 0 before its third.
 pub data Call : Type 0 where
   no-call : Call
   putting : ℕ → ℕ → ℕ → Call

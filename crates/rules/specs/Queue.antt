@@ -80,7 +80,7 @@ due no-call = 0
 due (putting w k r) = cond (eqb k 3) 2 1
 due (taking k r) = cond (eqb k 3) 2 1
 
--- What is promised of an entry, by the log before it. A taken line is due: so each call ends once, and after that a `go` is refused.
+-- 1, 3, 4. What is promised of an entry, by the log before it. A taken line is due: so each call ends once, and after that a `go` is refused.
 pub record Right (c m : ℕ) (e : Entry) (es : List Entry) : Type 0 where
   pub says : Says c m (seen es) (e .view) (callIn (seen es) (e .step)) (e .answer)
   pub by-thread : numberOf (e .answer) ≡ 0 → 0 < e .step .thread
@@ -104,7 +104,6 @@ pub record Ordered (m : Machine) (b c h t : ℕ) (ws : List Write) (es : List En
   -- 1. "Let each put count at its head swap, each take at its tail swap": that list never overflows, and nothing is taken from it empty.
   pub line : Line
   pub plain-list : plain c (n .ops) ≡ some line
-  -- 1, 3, 4.
   pub right : Each (Right c (b + c)) es
   -- 2. "Tail never passes head, nor head tail plus C."
   pub low : t ≤ h
@@ -117,8 +116,7 @@ pub record Ordered (m : Machine) (b c h t : ℕ) (ws : List Write) (es : List En
   pub contents : (j w : ℕ) → getElem? (line .inside) j ≡ some w → contentOf m ws (t + j) ≡ showing (n .published (t + j)) w
   -- 4. A take's view covers the putter's already from its won swap on.
   pub covering : (i k r : ℕ) → n .calls i ≡ taking k r → 3 ≤ k → CoversNoted (b + c) (n .published r) (row m i)
-  -- 5. "While a take waits to read its slot", three steps before, "at most one stamp is accepted": its own view's of that slot, and that is,
-  -- steps allowing.
+  -- 5. "While a take waits to read its slot, at most one stamp is accepted": its own view's of that slot, and that is, steps allowing.
   pub one-stamp : (i r a : ℕ) → n .calls (i - 1) ≡ taking 3 r → numberGiven m ws (goAt i a) ≡ 0
       → a ≡ stampOf (row m (i - 1)) (b + slotOf c r)
   pub own-stamp : (i r : ℕ) → n .calls (i - 1) ≡ taking 3 r → 0 < i → m .steps < 4096

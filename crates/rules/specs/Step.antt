@@ -71,7 +71,8 @@ outcome d ws = record { done = d; writes = ws }
 unfoldable pub stepOf : Machine → List Write → Step → Outcome
 stepOf m ws s = outcome (decidedOf m ws s .done) (recorded (decidedOf m ws s .wrote) (m .held) ws)
 
--- What a queue holds: the weight at the greatest stamp of the rank's slot if its status is 2 times rank plus 1, else `-`.
+-- What a queue holds: the weight at the greatest stamp of the rank's slot if its status is 2 times rank plus 1, else `-`; of a state that
+-- cannot stand, 14.
 abbrev pub contentIf : Bool → Bool → ℕ → Answer
 contentIf false b v = Refused 14
 contentIf true true v = Value v

@@ -65,7 +65,7 @@ givenIf false v = 0
 unfoldable pub firstOf : Machine → ℕ → ℕ
 firstOf m i = givenIf (ltb i (m .shape .plain)) (getD (m .firsts) i 0)
 
--- The lists are as long as the arrays that they are.
+-- The lists have the lengths of the arrays that they stand for.
 pub record Whole (m : Machine) : Type 0 where
   pub firsts : length (m .firsts) ≡ 16
   pub views : length (m .views) ≡ 8

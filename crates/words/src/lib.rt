@@ -3,14 +3,13 @@ ghost use mathlib.Core.Path.{_≡_};
 ghost use mathlib.Core.List.{_++_};
 ghost use Prim.Native.Nat.{_+_, _*_, _≤_};
 ghost use lib.ListN.{length};
-ghost use Rattle.image.specs.Image.{placeWords, inTurn, atomicWords, threadWords, heading, wordsOf};
+ghost use Rattle.image.specs.Image.{inTurn, atomicWords, threadWords, heading, wordsOf};
 ghost use Rattle.number.specs.Buffer.{placed, Wrote};
 ghost use Rattle.parts.specs.Parts.{nameIn};
 ghost use Rattle.state.specs.State.{atomicAt};
 use parts::Family;
 use state::Machine;
 use state::Name;
-use state::Place;
 use view::View;
 
 // Words at a place, where there is room: the next place.
@@ -25,22 +24,6 @@ fn write_words(buf: &mut [u32], p: usize, words: &[u32]) -> usize
         i += 1;
     }
     p + n
-}
-
-fn place_words(p: Place) -> [u32; 3]
-    ensures { λ r. ⌜ r ≡ placeWords p ⌝ }
-{
-    match p {
-        Place::Idle => [0, 0, 0],
-        Place::PutStatus { rank, weight } => [1, rank, weight],
-        Place::PutSwap { rank, weight } => [2, rank, weight],
-        Place::PutWrite { rank, weight } => [3, rank, weight],
-        Place::PutPublish { rank } => [4, rank, 0],
-        Place::TakeStatus { rank } => [5, rank, 0],
-        Place::TakeSwap { rank } => [6, rank, 0],
-        Place::TakeRead { rank } => [7, rank, 0],
-        Place::TakeFree { rank, weight } => [8, rank, weight],
-    }
 }
 
 // Some words and the stamps of a view: an entry of the image.
@@ -62,7 +45,7 @@ fn write_threads(buf: &mut [u32], p: usize, m: Machine) -> usize
     let mut q = p;
     let mut i: usize = 0;
     while i < 8 {
-        let words = place_words(state::place_of(m, i));
+        let words = image::place_words(state::place_of(m, i));
         q = write_entry(buf, q, &words, state::row_of(m, i));
         i += 1;
     }

@@ -1,6 +1,6 @@
 use borrow.Author.Needs.{needs}
-use Rattle.words.proofs.place_words.Statement.{statement}
-use Rattle.words.proofs.place_words.Tie as tie
+use Rattle.image.proofs.place_words.Statement.{statement}
+use Rattle.image.proofs.place_words.Tie as tie
 
 returns-2 : tie.Need-returns-2
 returns-2 c = rw (c .before .p .given .1)
