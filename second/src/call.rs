@@ -3,7 +3,8 @@
 //!
 //! The rules are the call as `docs/DECISIONS.md` settles it. The answer needs
 //! room for its two words, else 15. What is asked must be a line of the table:
-//! five words and one of the nine forms, else 2. The state must be the image of
+//! five words, one of the nine forms, and 0 for each operand that the form
+//! lacks, else 2. The state must be the image of
 //! one: all its words, and of each of the eight threads, those above T among
 //! them, the words of a place, else 14. Words past the image, past what is asked
 //! and past the answer are nobody's: not looked at, not written.
@@ -13,7 +14,9 @@ use crate::machine::MOST_THREADS;
 use crate::random::Random;
 
 const ASKED: usize = 5;
-const FORMS: u32 = 9;
+/// How many operands each form has: get, set, load, store, swap, put, take, go,
+/// go with a stamp.
+const OPERANDS: [usize; 9] = [2, 3, 1, 2, 3, 1, 0, 0, 1];
 const ANSWER: usize = 2;
 
 /// What a call is lent besides the list.
@@ -29,7 +32,7 @@ impl Words {
     pub fn refused(&self) -> Option<u32> {
         if self.answer.len() < ANSWER {
             Some(15)
-        } else if self.asked.len() < ASKED || self.asked[1] >= FORMS {
+        } else if self.asked.len() < ASKED || !form_kept(&self.asked) {
             Some(2)
         } else if self.state.len() < WORDS || !places_known(&self.state) {
             Some(14)
@@ -37,6 +40,13 @@ impl Words {
             None
         }
     }
+}
+
+/// Whether the form is one of the nine and has as many operands as are given.
+fn form_kept(asked: &[u32]) -> bool {
+    OPERANDS
+        .get(asked[1] as usize)
+        .is_some_and(|&many| asked[2 + many..ASKED].iter().all(|&more| more == 0))
 }
 
 fn places_known(state: &[u32]) -> bool {
@@ -63,12 +73,13 @@ fn notes(place: u32) -> Option<Noted> {
 }
 
 /// The ways in which a call can be odd.
-pub const ODD: [&str; 8] = [
+pub const ODD: [&str; 9] = [
     "image short",
     "place unknown",
     "place unknown above T",
     "word not noted",
     "form unknown",
+    "operand not due",
     "asked short",
     "answer short",
     "longer than needed",
@@ -87,6 +98,24 @@ const NOT_NOTED: [[u32; 3]; 10] = [
     [6, 2, 1_000],
     [7, 0, 1],
     [7, 1, u32::MAX],
+];
+
+/// Forms with a word of an operand that they lack.
+const NOT_DUE: [(u32, usize); 14] = [
+    (0, 4),
+    (2, 3),
+    (2, 4),
+    (3, 4),
+    (5, 3),
+    (5, 4),
+    (6, 2),
+    (6, 3),
+    (6, 4),
+    (7, 2),
+    (7, 3),
+    (7, 4),
+    (8, 3),
+    (8, 4),
 ];
 
 /// Makes a call odd, mostly in one way; says in which.
@@ -125,8 +154,17 @@ fn odd_in(random: &mut Random, words: &mut Words, way: usize) -> bool {
             Some(form) => *form = unknown(random),
             None => return false,
         },
-        5 => asked.truncate(random.pick(&[0, 1, 2, 3, 4, 4])),
-        6 => answer.truncate(random.pick(&[0, 1])),
+        5 => {
+            let (form, operand) = random.pick(&NOT_DUE);
+            if asked.len() < ASKED {
+                return false;
+            }
+            asked[1] = form;
+            asked[2..ASKED].fill(0);
+            asked[operand] = random.pick(&[1, 1_500, u32::MAX]);
+        }
+        6 => asked.truncate(random.pick(&[0, 1, 2, 3, 4, 4])),
+        7 => answer.truncate(random.pick(&[0, 1])),
         _ => {
             for (room, least) in [(state, 0), (asked, 0), (answer, 1)] {
                 let more = random.below(40) + least;
@@ -163,6 +201,8 @@ mod tests {
         assert_eq!(refused(|w| w.answer.truncate(1)), Some(15));
         assert_eq!(refused(|w| w.asked.truncate(4)), Some(2));
         assert_eq!(refused(|w| w.asked[1] = 9), Some(2));
+        assert_eq!(refused(|w| w.asked[2] = 1_500), None);
+        assert_eq!(refused(|w| w.asked[1..3].copy_from_slice(&[7, 1_500])), Some(2));
         assert_eq!(refused(|w| w.state.truncate(1_159)), Some(14));
         assert_eq!(refused(|w| w.state.push(7)), None);
         // The last thread, which no machine of one thread has.

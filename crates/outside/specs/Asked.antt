@@ -2,10 +2,10 @@
 use mathlib.Core.Bool.{Bool}
 use mathlib.Core.List.{List, [], _∷_}
 use Prim.Native.Nat.{ℕ}
-use lib.Dec.{leb, ltb}
+use lib.Dec.{leb, eqb}
 use lib.ListN.{length, getD}
-use Rattle.form.specs.Line.{verbOf}
-use Rattle.form.specs.Table.{stepForms}
+use Rattle.form.specs.Line.{fieldsOf, verbOf}
+use Rattle.form.specs.declared.Line.the-variants.{StepLine}
 use Rattle.laws.specs.Tests.{_and_}
 use Rattle.step.specs.declared.Answer.{Answer}
 use Rattle.step.specs.declared.Answer.the-variants.{Dash, Ok, Value, Yes, No, None, Got, Refused}
@@ -16,9 +16,11 @@ use Rattle.step.specs.declared.Verb.the-variants.{Go}
 unfoldable pub stepAsked : List ℕ → Step
 stepAsked s = record { thread = getD s 0 0; verb = verbOf (getD s 1 0) (getD s 2 0) (getD s 3 0) (getD s 4 0) }
 
--- Numbers that ask a step: five or more, the second a row of a step's form.
+-- Numbers that ask a step: five or more, the row and the operands as the table has them for that step, 0 for one that its row lacks.
 unfoldable pub isAsked : List ℕ → Bool
-isAsked s = leb 5 (length s) and ltb (getD s 1 0) stepForms
+isAsked s =
+    let f = fieldsOf (StepLine (stepAsked s)) in
+    leb 5 (length s) and ((eqb (getD s 1 0) (f .form) and eqb (getD s 2 0) (f .a)) and (eqb (getD s 3 0) (f .b) and eqb (getD s 4 0) (f .c)))
 
 -- A step of thread 0, which no state takes: what a refused call asks of the machine.
 abbrev pub noStep : Step

@@ -17,7 +17,7 @@ module _ (s : List ℕ) (ws : List Write) (asked a : List ℕ) where
   step = stepCalled s ws asked .done
 
   -- The number of a call: 15, 2, 14, then that of its step.
-  pub record Ordered : Type 0 where
+  pub record NumberOrder : Type 0 where
     pub short : length a < 2 → called s ws asked a .number ≡ 15
     pub unasked : 2 ≤ length a → isAsked asked ≡ false → called s ws asked a .number ≡ 2
     pub unreadable : 2 ≤ length a → isAsked asked ≡ true → isImage s ≡ false → called s ws asked a .number ≡ 14
@@ -43,7 +43,7 @@ module _ (s : List ℕ) (ws : List Write) (asked a : List ℕ) where
     pub answer : called s ws asked a .answer ≡ answerWords (step .answer) ++ drop 2 a
 
 abbrev pub CallOrdered : Type 0
-CallOrdered = (s : List ℕ) (ws : List Write) (asked a : List ℕ) → Ordered s ws asked a
+CallOrdered = (s : List ℕ) (ws : List Write) (asked a : List ℕ) → NumberOrder s ws asked a
 
 abbrev pub CallKeeps : Type 0
 CallKeeps = (s : List ℕ) (ws : List Write) (asked a : List ℕ) → 0 < called s ws asked a .number → Keeps s ws asked a

@@ -5,6 +5,8 @@ ghost use Rattle.number.specs.Buffer.{placed};
 ghost use Rattle.outside.specs.Asked.{stepAsked, isAsked, noStep, answerWords};
 ghost use Rattle.outside.specs.Call.{lent, refusedCall, left, called};
 ghost use Rattle.step.specs.Answer.{numberOf};
+use form::Line;
+use laws::both;
 use laws::number_at;
 use rules::Done;
 use state::Machine;
@@ -32,7 +34,13 @@ fn is_asked(s: &[u32]) -> bool
     if s.len() < 5 {
         return false;
     }
-    (number_at(s, 1) as usize) < form::STEP_FORMS
+    let step = step_asked(s);
+    let f = form::fields_of(Line::StepLine(step));
+    let row = (number_at(s, 1) as usize) == f.form;
+    let a = number_at(s, 2) == f.a;
+    let b = number_at(s, 3) == f.b;
+    let c = number_at(s, 4) == f.c;
+    both(both(row, a), both(b, c))
 }
 
 // The number that a call is refused by before its step, else 0.

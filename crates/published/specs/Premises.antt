@@ -45,7 +45,7 @@ ViewLets m s = ViewPremise (stampsOf m (s .thread - 1)) (running m s) (stampIn (
 abbrev pub HistoryLets : Machine → List Write → Step → Type 0
 HistoryLets m ws s = HistoryPremise (storeOf m ws) (running m s) (stampIn (s .verb))
 
--- k is the number n where P fails, and where it holds what the later ones say
+-- where P fails, k is n; where it holds, the later ones say what k is
 abbrev pub Unless : Type 0 → ℕ → (ℕ → Type 0) → ℕ → Type 0
 Unless P n later k = ((P → ⊥) × (k ≡ n)) ⊎ (P × later k)
 

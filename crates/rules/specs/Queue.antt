@@ -59,8 +59,8 @@ pub record Gets (c m : ℕ) (n : Seen) (v : View) (k r w : ℕ) : Type 0 where
   -- 4. "That thread's view then covers, cell by cell, the putter's view when it published": its view after its `yes`.
   pub covers : CoversNoted m (n .published r) v
 
--- 1. "the won calls' answers are those of" that list, "a call answered no or none leaves that list as it was": what a call may be answered,
--- k steps before, and nothing else; one that has had three steps has won. Outside a call, an access.
+-- 1. "the won calls' answers are those of" that list, "a call answered no or none leaves that list as it was": what a call that
+-- has had k steps may be answered, and nothing else; one that has had three has won. Outside a call, an access.
 pub data Says (c m : ℕ) (n : Seen) (v : View) : Call → Answer → Type 0 where
   refused : {q : Call} {k : ℕ} → 0 < k → Says c m n v q (Refused k)
   access-ok : Says c m n v no-call Ok

@@ -1,4 +1,4 @@
-// The machine's state by value, and the accessors of its places: total in every index; but for the image of `outside` none else has one.
+// The machine's state by value, and the accessors of its places: total in every index; but for `image` and `words` none else has one.
 ghost use mathlib.Core.Path.{_≡_};
 ghost use Prim.Native.Nat.{_-_};
 ghost use lib.ListN.{getD, set};

@@ -19,8 +19,20 @@ returns c =
 returns-2 : tie.Need-returns-2
 unfolding isAsked _and_
 returns-2 c =
-    let h : 5 ≤ length (c .before .before .before .args .s .now) = omega (arith, c .before .if1 .left) in
-    rw (le-leb _ _ h, c .number-at .ensures)
+    let read = c .before .before .before .before .before .before .before .before .before .before in
+    let h : 5 ≤ length (read .before .before .before .before .before .args .s .now) = omega (arith, read .before .before .before .if1 .left) in
+    rw (
+      c .both3 .ensures,
+      c .before .both2 .ensures,
+      c .before .before .both .ensures,
+      c .before .before .before .before .number-at4 .ensures,
+      c .before .before .before .before .before .before .number-at3 .ensures,
+      c .before .before .before .before .before .before .before .before .number-at2 .ensures,
+      read .number-at .ensures,
+      read .before .fields-of .ensures,
+      read .before .before .step-asked .ensures,
+      le-leb _ _ h,
+    )
 
 pub is-asked-spec : {M : Type 1} → statement M
-is-asked-spec = tie.close (tie.spec returns (λ c κs. search needs) (λ c. search needs) returns-2)
+is-asked-spec = tie.close (tie.spec returns (λ c κs. search needs) (λ c κs. search needs) (λ c κs. search needs) (λ c. search needs) (λ c κs. search needs) (λ c κs. search needs) (λ c κs. search needs) (λ c κs. search needs) (λ c κs. search needs) (λ c κs. search needs) returns-2)
