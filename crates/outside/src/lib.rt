@@ -1,4 +1,5 @@
 // One step for callers in another language: the state as an image of numbers.
+#![tactic(auto)]
 ghost use Rattle.std.specs.Prelude.{◌≡◌};
 ghost use Rattle.image.specs.Image.{words_of, machine_of};
 ghost use Rattle.number.specs.Buffer.{placed};

@@ -1,4 +1,5 @@
 // What a step comes to; what it does stands in specs/. Types only.
+#![tactic(auto)]
 use state::Machine;
 use step::Answer;
 use writes::Access;

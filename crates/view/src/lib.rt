@@ -1,4 +1,5 @@
 // Views: one stamp for each plain cell and each item slot.
+#![tactic(auto)]
 ghost use Rattle.std.specs.Prelude.{◌≡◌, max};
 ghost use Rattle.view.specs.View.{zero_view, stamp_of, with_stamp, joined, view_stands};
 

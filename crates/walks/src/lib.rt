@@ -1,1 +1,2 @@
 // What walks by hand share; no code.
+#![tactic(auto)]

@@ -1,0 +1,11 @@
+use mathlib.Core.Path.{sym}
+use native.Mathlib.Omega.{arith}
+use borrow.Author.Rules.{rules}
+use Rattle.number.proofs.Stores.{room_rest, room_none}
+use Rattle.number.proofs.has_room.Goals as goal
+
+pub returns-then-at-buf : goal.returns-then-at-buf
+returns-then-at-buf c = room_rest _ _ _ c.if-at-buf.true
+
+pub returns-else-at-buf : goal.returns-else-at-buf
+returns-else-at-buf c = sym (room_none c.args.buf.now _ _ (omega arith))
