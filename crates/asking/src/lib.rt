@@ -11,14 +11,14 @@ use step::{Step, Verb};
 use writes::{Access, Query};
 
 // A step, and whether the state and the list are known to stand, as they are after a step that was taken.
-#[derive(Drop)]
+#[derive(Clone, Copy)]
 pub struct Asked {
     pub step: Step,
     pub known: bool,
 }
 
 // What is asked of the list: the plain access to be made, how many records are searched, and for what.
-#[derive(Drop)]
+#[derive(Clone, Copy)]
 pub struct Ask {
     pub access: Access,
     pub held: usize,

@@ -39,7 +39,7 @@ pub fn write_atomic(m: Machine, i: usize, name: Name, value: u32) -> Machine
     state::with_atomic(state::with_row(m, i, meet(m, i, name)), name, cell)
 }
 
-#[derive(Drop)]
+#[derive(Clone, Copy)]
 pub struct Swapped {
     pub won: bool,
     pub machine: Machine,

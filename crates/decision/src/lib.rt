@@ -20,7 +20,7 @@ use writes::{Access, Fill, Found, Query};
 mod calls; // calls.rt: the two calls, and what each verb does
 
 // What is decided: the record to store, the answer and the machine.
-#[derive(Drop)]
+#[derive(Clone, Copy)]
 pub struct Verdict {
     pub fill: Fill,
     pub done: Done,

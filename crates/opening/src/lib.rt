@@ -8,7 +8,7 @@ use state::{Atomic, Machine, Place, Shape, Thread};
 use step::{Answer, MOST};
 
 // The machine and how the opening is answered: `Ok`, or refused with a machine that is all zero and cannot stand.
-#[derive(Drop)]
+#[derive(Clone, Copy)]
 pub struct Opened {
     pub answer: Answer,
     pub machine: Machine,

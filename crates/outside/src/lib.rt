@@ -58,7 +58,7 @@ fn refused_call(state: &[u32], asked: &[u32], room: usize) -> u32
 }
 
 // What a call asks, with the number that it is refused by before its step, else 0.
-#[derive(Drop)]
+#[derive(Clone, Copy)]
 struct Call {
     number: u32,
     machine: Machine,

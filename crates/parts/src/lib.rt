@@ -54,7 +54,7 @@ fn atomic_stands(a: Atomic, k: usize, most: usize) -> bool
 }
 
 // The atomic cells that there are several of.
-#[derive(Drop)]
+#[derive(Clone, Copy)]
 pub enum Family {
     Flags,
     Statuses,

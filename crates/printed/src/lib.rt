@@ -9,7 +9,7 @@ use number::Written;
 use step::Answer;
 
 // The words of a report.
-#[derive(Drop)]
+#[derive(Clone, Copy)]
 pub enum Word {
     Answers,
     Queue,
@@ -24,7 +24,7 @@ pub enum Word {
 }
 
 // What stands between two spaces: a word, a number without a point, a weight in thousandths.
-#[derive(Drop)]
+#[derive(Clone, Copy)]
 pub enum Field {
     Says(Word),
     Counts(u64),
@@ -32,7 +32,7 @@ pub enum Field {
 }
 
 // A line that is printed.
-#[derive(Drop)]
+#[derive(Clone, Copy)]
 pub enum Printed {
     Two(Field, Field),
     Three(Field, Field, Field),

@@ -1,5 +1,6 @@
 // Rank arithmetic: the slot of a rank, the rank after it, the status numbers. Nothing else reckons with ranks.
 #![tactic(auto)]
+
 ghost use Rattle.std.specs.Prelude.{◌≡◌};
 ghost use Rattle.rank.specs.Rank.{slot_of, next_rank, free_status, full_status, lapped};
 

@@ -8,7 +8,7 @@ use fault::Refusal;
 use form::Due;
 use line::LineRead;
 
-#[derive(Drop)]
+#[derive(Clone, Copy)]
 pub struct Reader<'a> {
     pub text: &'a [u8],
     pub at: usize,

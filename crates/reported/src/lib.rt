@@ -14,7 +14,7 @@ use state::Machine;
 use writes::Write;
 
 // A report: its first line, and the place after the other lines in the buffer.
-#[derive(Drop)]
+#[derive(Clone, Copy)]
 pub struct Reported {
     pub first: Printed,
     pub upto: Written,

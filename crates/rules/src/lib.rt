@@ -5,14 +5,14 @@ use step::Answer;
 use writes::Access;
 
 // What a step does that is taken: its answer and the machine, the step not yet counted.
-#[derive(Drop)]
+#[derive(Clone, Copy)]
 pub struct Done {
     pub answer: Answer,
     pub machine: Machine,
 }
 
 // What is decided of a step: its answer, the machine, and the access whose write is to be recorded.
-#[derive(Drop)]
+#[derive(Clone, Copy)]
 pub struct Decided {
     pub done: Done,
     pub wrote: Access,

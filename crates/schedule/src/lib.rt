@@ -9,14 +9,14 @@ use form::{Due, Header, Line};
 use line::LineRead;
 
 // So many lines, and the place of the first of them.
-#[derive(Drop)]
+#[derive(Clone, Copy)]
 pub struct Section {
     pub count: u32,
     pub at: usize,
 }
 
 // What the sections of a text hold; its lines are read one at a time from there.
-#[derive(Drop)]
+#[derive(Clone, Copy)]
 pub struct Sections {
     pub threads: u32,
     pub slots: u32,
@@ -26,14 +26,14 @@ pub struct Sections {
 }
 
 // What a text is found to be.
-#[derive(Drop)]
+#[derive(Clone, Copy)]
 pub enum Judged {
     Taken(Sections),
     Refused(Refusal),
 }
 
 // Lines that were passed: the count that the last of them gives and the place after it, or why the text is refused.
-#[derive(Drop)]
+#[derive(Clone, Copy)]
 pub enum Passed {
     Past(u32, usize),
     Stuck(Refusal),
@@ -41,7 +41,7 @@ pub enum Passed {
 
 // How far a text is judged: whether a line is due, and at which place; the section in hand, which header line is next, and how many lines
 // of the section are left (where none is, its header line is due); what was found so far; and, once no line is due, what was passed last.
-#[derive(Drop)]
+#[derive(Clone, Copy)]
 pub struct Progress {
     pub on: bool,
     pub at: usize,

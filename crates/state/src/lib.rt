@@ -8,14 +8,14 @@ ghost use Rattle.state.specs.State.{at, zero_atomic, row, with_row, place, with_
 use view::{View, zero_view};
 
 // An atomic cell holds one value and one view.
-#[derive(Drop)]
+#[derive(Clone, Copy)]
 pub struct Atomic {
     pub value: u32,
     pub view: View,
 }
 
 // The name of an atomic cell; flags and slots count from 0 here.
-#[derive(Drop)]
+#[derive(Clone, Copy)]
 pub enum Name {
     Head,
     Tail,
@@ -24,7 +24,7 @@ pub enum Name {
 }
 
 // Whether a thread is idle or which step of which call it makes next, with the rank and weight that this place needs.
-#[derive(Drop)]
+#[derive(Clone, Copy)]
 pub enum Place {
     Idle,
     PutStatus { rank: u32, weight: u32 },
@@ -37,13 +37,13 @@ pub enum Place {
     TakeFree { rank: u32, weight: u32 },
 }
 
-#[derive(Drop)]
+#[derive(Clone, Copy)]
 pub struct Thread {
     pub place: Place,
 }
 
 // What this machine has of each: T, C, N and the number of flags.
-#[derive(Drop)]
+#[derive(Clone, Copy)]
 pub struct Shape {
     pub threads: u32,
     pub slots: u32,
@@ -52,7 +52,7 @@ pub struct Shape {
 }
 
 // One view per thread as a table, thread by cell: `views`. Room that this machine lacks is zero or idle at opening.
-#[derive(Drop)]
+#[derive(Clone, Copy)]
 pub struct Machine {
     pub shape: Shape,
     pub steps: u32,

@@ -17,7 +17,7 @@ use step::{Answer, Step, Verb};
 use writes::Write;
 
 // What the text of a run asks next: whether a step, the step, and the lines after it. Once a step was taken, the state is known to stand.
-#[derive(Drop)]
+#[derive(Clone, Copy)]
 pub struct Ahead {
     pub on: bool,
     pub asked: Asked,
@@ -25,7 +25,7 @@ pub struct Ahead {
 }
 
 // A run on its way: what it asks next, the number that its last step was refused by or 0, and the place after the answers' lines.
-#[derive(Drop)]
+#[derive(Clone, Copy)]
 pub struct Going {
     pub ahead: Ahead,
     pub refused: u32,
@@ -33,7 +33,7 @@ pub struct Going {
 }
 
 // A run that came to its end.
-#[derive(Drop)]
+#[derive(Clone, Copy)]
 pub struct Ended {
     pub machine: Machine,
     pub refused: u32,

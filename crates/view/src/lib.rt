@@ -1,12 +1,13 @@
 // Views: one stamp for each plain cell and each item slot.
 #![tactic(auto)]
+
 ghost use Rattle.std.specs.Prelude.{◌≡◌, max};
 ghost use Rattle.view.specs.View.{zero_view, stamp_of, with_stamp, joined, view_stands};
 
 use step::MOST;
 
 // The entry of the cell that a record numbers c is at c - 1: plain cells first, then slots. Entries past the machine's own are room.
-#[derive(Drop)]
+#[derive(Clone, Copy)]
 pub struct View {
     pub at: [u32; 32],
 }

@@ -10,7 +10,7 @@ use form::{Fields, Kind, Line};
 use number::Written;
 
 // What writing a line gives: the place after it, that a number of it is outside its range, or that the buffer is too short.
-#[derive(Drop)]
+#[derive(Clone, Copy)]
 pub enum LineWritten {
     Upto(usize),
     NotInRange,

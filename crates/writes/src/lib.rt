@@ -10,7 +10,7 @@ use step::MOST;
 
 // One write of a plain cell. Callers in other languages lend the same, field after field.
 #[repr(C)]
-#[derive(Drop)]
+#[derive(Clone, Copy)]
 pub struct Write {
     pub cell: u32,
     pub stamp: u32,
@@ -18,21 +18,21 @@ pub struct Write {
 }
 
 // What a stamp finds in a cell's history.
-#[derive(Drop)]
+#[derive(Clone, Copy)]
 pub enum Found {
     Missing,
     Present { value: u32 },
 }
 
 // The greatest stamp of a cell's history and the value there.
-#[derive(Drop)]
+#[derive(Clone, Copy)]
 pub struct Newest {
     pub stamp: u32,
     pub value: u32,
 }
 
 // What a search answers: whether every record stands, the value at the stamp asked, the newest write of the cell asked.
-#[derive(Drop)]
+#[derive(Clone, Copy)]
 pub struct Looked {
     pub stand: bool,
     pub found: Found,
@@ -40,7 +40,7 @@ pub struct Looked {
 }
 
 // What a search asks of a machine with so many cells, whether it judges the records, and what it has found so far.
-#[derive(Drop)]
+#[derive(Clone, Copy)]
 pub struct Query {
     pub judged: bool,
     pub cells: usize,
@@ -50,7 +50,7 @@ pub struct Query {
 }
 
 // The plain access that a step makes.
-#[derive(Drop)]
+#[derive(Clone, Copy)]
 pub enum Access {
     NoAccess,
     Reads { cell: u32, stamp: u32 },
@@ -58,7 +58,7 @@ pub enum Access {
 }
 
 // The record that an access fills, and where.
-#[derive(Drop)]
+#[derive(Clone, Copy)]
 pub struct Fill {
     pub at: usize,
     pub write: Write,

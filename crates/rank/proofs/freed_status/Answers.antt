@@ -1,0 +1,8 @@
+use mathlib.Core.Path.{refl}
+use borrow.Author.Rules.{rules}
+use Rattle.rank.specs.Rank.{free_status, lapped}
+use Rattle.rank.proofs.freed_status.Goals as goal
+
+pub returns : goal.returns
+unfolding free_status lapped
+returns c = refl
