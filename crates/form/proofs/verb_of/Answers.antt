@@ -2,6 +2,7 @@ use mathlib.Core.Path.{sym}
 use Prim.Native.Nat.{zero-le}
 use Rattle.form.proofs.Table.{last_verb, above}
 use Rattle.form.specs.Line.{verb_of}
+use native.Mathlib.Omega.{arith}
 use Rattle.form.proofs.verb_of.Goals as goal
 
 pub returns-in-0 : goal.returns-in-0
@@ -37,6 +38,4 @@ unfolding verb_of
 returns-in-7 c = rw c.in-7.is
 
 pub returns-in_default : goal.returns-in_default
-returns-in_default c =
-    sym (last_verb c.args.form _ _ _
-    (above (above (above (above (above (above (above (above zero-le c.in_default.rest.0.0.0.0.0.0.0.1) c.in_default.rest.0.0.0.0.0.0.1) c.in_default.rest.0.0.0.0.0.1) c.in_default.rest.0.0.0.0.1) c.in_default.rest.0.0.0.1) c.in_default.rest.0.0.1) c.in_default.rest.0.1) c.in_default.rest.1))
+returns-in_default c = sym (last_verb c.args.form _ _ _ (omega arith))
