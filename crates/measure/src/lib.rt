@@ -1,5 +1,6 @@
 // A line measured before it is written: whether its numbers are in their ranges, and how many bytes it has.
 #![tactic(auto)]
+
 ghost use Rattle.std.specs.Prelude.{◌≡◌, length};
 ghost use Rattle.form.specs.Range.{in_range};
 ghost use Rattle.form.specs.Line.{fields_in_range};

@@ -1,5 +1,6 @@
 // The machine's state by value, and the accessors of its places: total in every index; but for `image` and `words` none else has one.
 #![tactic(auto)]
+
 ghost use Rattle.std.specs.Prelude.{◌≡◌, ◌-◌, get_or, set};
 ghost use Rattle.view.specs.View.{zero_view};
 ghost use Rattle.state.specs.declared.Place.TheVariants.{Idle};

@@ -1,5 +1,6 @@
 // The list of writes, lent as a slice of records. One search, one store: nothing else touches it.
 #![tactic(auto)]
+
 ghost use Rattle.std.specs.Prelude.{◌≡◌, min, set, take};
 ghost use Rattle.writes.specs.Records.{no_write, fill, fill_of};
 ghost use Rattle.writes.specs.History.{earlier, present_if, shown_by, newer, record_stands};

@@ -1,0 +1,12 @@
+use mathlib.Core.Path.{◌∙◌}
+use borrow.Author.Rules.{rules}
+use Rattle.operand.proofs.read_lead.Goals as goal
+
+pub returns-in-Nothing : goal.returns-in-Nothing
+returns-in-Nothing c = rw c.in-Nothing.is
+
+pub returns-in-Count : goal.returns-in-Count
+returns-in-Count c = rw c.in-Count.is (c.then_space.ensures ∙ rw c.read_kind.ensures)
+
+pub returns-in-Thousandths : goal.returns-in-Thousandths
+returns-in-Thousandths c = rw c.in-Thousandths.is c.read_kind-in-Thousandths.ensures

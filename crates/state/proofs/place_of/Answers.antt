@@ -1,0 +1,7 @@
+use Rattle.state.specs.State.{place}
+use borrow.Author.Rules.{rules}
+use Rattle.state.proofs.place_of.Goals as goal
+
+pub returns : goal.returns
+unfolding place
+returns c = rw c.thread_in-thread.ensures

@@ -1,0 +1,7 @@
+use Rattle.state.specs.State.{row}
+use borrow.Author.Rules.{rules}
+use Rattle.state.proofs.row_of.Goals as goal
+
+pub returns : goal.returns
+unfolding row
+returns c = c.row_in.ensures

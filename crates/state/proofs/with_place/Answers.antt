@@ -1,0 +1,7 @@
+use Rattle.state.specs.State.{with_place}
+use borrow.Author.Rules.{rules}
+use Rattle.state.proofs.with_place.Goals as goal
+
+pub returns : goal.returns
+unfolding with_place
+returns c = rw c.threads_with-changed.ensures

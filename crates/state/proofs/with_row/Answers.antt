@@ -1,0 +1,7 @@
+use Rattle.state.specs.State.{with_row}
+use borrow.Author.Rules.{rules}
+use Rattle.state.proofs.with_row.Goals as goal
+
+pub returns : goal.returns
+unfolding with_row
+returns c = rw c.rows_with-changed.ensures
