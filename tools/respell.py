@@ -11,6 +11,7 @@ import sys
 
 HEAD = re.compile(r"^(?:(?:abbrev|unfoldable|pub) )*([^\s:(){}]+) *:( |$)")
 INNER = re.compile(r"^  (?:pub )?([^\s:(){}]+) *:( |$)")
+WITHIN = re.compile(r"^( +)(?:(?:abbrev|unfoldable|pub) )*([^\s:(){}]+) *:( |$)")
 TYPE = re.compile(r"^(?:pub )?(record|data) (\S+)")
 WORD = re.compile(r"[^\W\d][\w'-]*")
 
@@ -18,8 +19,8 @@ WORD = re.compile(r"[^\W\d][\w'-]*")
 def declared(path):
     """What a file declares at its top, in records and in types: (name, kind)."""
     found, inner = [], None
-    for line in open(path):
-        line = line.rstrip("\n")
+    lines = open(path).read().split("\n")
+    for line in lines:
         if not line.strip() or line.startswith("--"):
             continue
         opened = TYPE.match(line)
@@ -36,6 +37,11 @@ def declared(path):
             field = INNER.match(line)
             if field:
                 found.append((field.group(1), inner))
+        else:
+            # in a block of a module or of a definition: what is declared and then defined
+            within = WITHIN.match(line)
+            if within and any(re.match(re.escape(within.group(1) + within.group(2)) + r"( .*)? =( |$)", l) for l in lines):
+                found.append((within.group(2), "def"))
     return found
 
 

@@ -56,13 +56,13 @@ judged false m lent s q e =
 
 module _ (m : Machine) (ws : List Write) (s : Step) where
   -- where nothing is known, the step is judged whole
-  pub unknown-step : step_by false m ws s ≡ step_of m ws s
+  pub unknown_step : step_by false m ws s ≡ step_of m ws s
   unfolding step_by step_of decided_of refusal_of
-  unknown-step = refl
+  unknown_step = refl
 
-  judged-true : stands m ws ≡ true → judged_by true m ws s ≡ true
+  judged_true : stands m ws ≡ true → judged_by true m ws s ≡ true
   unfolding stands ◌and◌
-  judged-true e =
+  judged_true e =
       let p = apart _ _ e in
       let z = sizes m (length ws) p.0 in
       rw p.0 (rank_fits_lem m s z.steps z.shape.some_thread (apart _ _ p.1).0)
@@ -70,12 +70,12 @@ module _ (m : Machine) (ws : List Write) (s : Step) where
   -- where the state and the list stand, it is the same
   pub known_step : stands m ws ≡ true → step_by true m ws s ≡ step_of m ws s
   unfolding step_by
-  known_step e = ap (λ (b : Bool). left_by (decided_with b m ws s) m ws) (judged-true e ∙ sym e) ∙ unknown-step
+  known_step e = ap (λ (b : Bool). left_by (decided_with b m ws s) m ws) (judged_true e ∙ sym e) ∙ unknown_step
 
   -- so it is where what is known is true
-  pub as-known : (known : Bool) → (known ≡ true → stands m ws ≡ true) → step_by known m ws s ≡ step_of m ws s
-  as-known true h = known_step (h refl)
-  as-known false h = unknown-step
+  pub as_known : (known : Bool) → (known ≡ true → stands m ws ≡ true) → step_by known m ws s ≡ step_of m ws s
+  as_known true h = known_step (h refl)
+  as_known false h = unknown_step
 
 pub known_numbered : KnownNumbered
 unfolding step_by

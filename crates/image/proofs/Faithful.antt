@@ -6,7 +6,7 @@ use native.Mathlib.Omega.{arith}
 use lib.ListN.{length, get_or, replicate, length-append}
 use Rattle.laws.proofs.Lists.{set_either, replicated, filled_length}
 use Rattle.laws.specs.Lists.{filled}
-use Rattle.image.proofs.Inside.{Has, has_last, has_front, has_in, has_first, turns-length, has-turn, filled_whole, view_back, atomic_back, place_length, place_back}
+use Rattle.image.proofs.Inside.{Has, has_last, has_front, has_in, has_first, turns_length, has_turn, filled_whole, view_back, atomic_back, place_length, place_back}
 use Rattle.image.specs.Image.{place_words, in_turn, atomic_words, thread_words, heading, words_of, first_at, thread_at, view_at, cell_at, word, view_from, atomic_from, place_from, machine_of}
 use Rattle.image.specs.Promise.{ImageLong, ImageFaithful, ImageWhole}
 use Rattle.state.specs.State.{zero_atomic, at, row, place, atomic_at, Whole}
@@ -47,35 +47,35 @@ parts a b c d e f g la lb lc ld le lf =
     }
 
 module _ (m : Machine) (w : Whole m) where
-  pub thread-length : (i : ℕ) → length (thread_words m i) ≡ 35
-  thread-length i = omega (arith, length-append (place_words (place m i)) (row m i).at, place_length (place m i), w.rows i)
+  pub thread_length : (i : ℕ) → length (thread_words m i) ≡ 35
+  thread_length i = omega (arith, length-append (place_words (place m i)) (row m i).at, place_length (place m i), w.rows i)
 
-  pub cell-length : (a : Name) → length (atomic_words (atomic_at m a)) ≡ 33
-  cell-length a = omega (arith, w.seen a)
+  pub cell_length : (a : Name) → length (atomic_words (atomic_at m a)) ≡ 33
+  cell_length a = omega (arith, w.seen a)
 
   parted : Parts (words_of m) m.firsts (in_turn (thread_words m) 8) (atomic_words (atomic_at m Head)) (atomic_words (atomic_at m Tail))
       (in_turn (λ i. atomic_words (atomic_at m (Flag i))) 8) (in_turn (λ i. atomic_words (atomic_at m (Status i))) 16)
   unfolding words_of
   parted =
-      parts (heading m) _ _ _ _ _ _ refl w.firsts (turns-length (thread_words m) 35 thread-length 8) (cell-length Head) (cell-length Tail)
-      (turns-length (λ i. atomic_words (atomic_at m (Flag i))) 33 (λ i. cell-length (Flag i)) 8)
+      parts (heading m) _ _ _ _ _ _ refl w.firsts (turns_length (thread_words m) 35 thread_length 8) (cell_length Head) (cell_length Tail)
+      (turns_length (λ i. atomic_words (atomic_at m (Flag i))) 33 (λ i. cell_length (Flag i)) 8)
 
-  thread-has : (i : ℕ) → i < 8 → Has (words_of m) (thread_at i) (thread_words m i)
-  thread-has i h = has_in parted.threads (has-turn (thread_words m) 35 thread-length 8 i h)
+  thread_has : (i : ℕ) → i < 8 → Has (words_of m) (thread_at i) (thread_words m i)
+  thread_has i h = has_in parted.threads (has_turn (thread_words m) 35 thread_length 8 i h)
 
-  pub place-has : (i : ℕ) → i < 8 → Has (words_of m) (thread_at i) (place_words (place m i))
-  place-has i h = has_first _ (row m i).at (thread-has i h)
+  pub place_has : (i : ℕ) → i < 8 → Has (words_of m) (thread_at i) (place_words (place m i))
+  place_has i h = has_first _ (row m i).at (thread_has i h)
 
-  flag-has : (i : ℕ) → i < 8 → Has (words_of m) (cell_at (Flag i)) (atomic_words (atomic_at m (Flag i)))
-  flag-has i h = has_in parted.flags (has-turn (λ j. atomic_words (atomic_at m (Flag j))) 33 (λ j. cell-length (Flag j)) 8 i h)
+  flag_has : (i : ℕ) → i < 8 → Has (words_of m) (cell_at (Flag i)) (atomic_words (atomic_at m (Flag i)))
+  flag_has i h = has_in parted.flags (has_turn (λ j. atomic_words (atomic_at m (Flag j))) 33 (λ j. cell_length (Flag j)) 8 i h)
 
-  status-has : (i : ℕ) → i < 16 → Has (words_of m) (cell_at (Status i)) (atomic_words (atomic_at m (Status i)))
-  status-has i h = has_in parted.statuses (has-turn (λ j. atomic_words (atomic_at m (Status j))) 33 (λ j. cell-length (Status j)) 16 i h)
+  status_has : (i : ℕ) → i < 16 → Has (words_of m) (cell_at (Status i)) (atomic_words (atomic_at m (Status i)))
+  status_has i h = has_in parted.statuses (has_turn (λ j. atomic_words (atomic_at m (Status j))) 33 (λ j. cell_length (Status j)) 16 i h)
 
-  view-has : (i : ℕ) → i < 8 → Has (words_of m) (view_at i) (row m i).at
-  view-has i h =
+  view_has : (i : ℕ) → i < 8 → Has (words_of m) (view_at i) (row m i).at
+  view_has i h =
       let e : view_at i ≡ thread_at i + 3 = omega arith in
-      rw e (has_in (thread-has i h) (has_last (place_words (place m i)) (row m i).at 3 (place_length (place m i))))
+      rw e (has_in (thread_has i h) (has_last (place_words (place m i)) (row m i).at 3 (place_length (place m i))))
 
 -- field by field
 fields : (s : List ℕ) (m : Machine) → word s 0 ≡ m.shape.threads → word s 1 ≡ m.shape.slots → word s 2 ≡ m.shape.plain
@@ -92,19 +92,19 @@ fields s m t c n f k h a b d e g i j = rw (t, c, n, f, k, h, a, b, d, e, g, i, j
 
 pub image_long : ImageLong
 image_long m w =
-    omega (arith, (parted m w).long, turns-length (λ i. atomic_words (atomic_at m (Status i))) 33 (λ i. cell-length m w (Status i)) 16)
+    omega (arith, (parted m w).long, turns_length (λ i. atomic_words (atomic_at m (Status i))) 33 (λ i. cell_length m w (Status i)) 16)
 
 pub image_faithful : ImageFaithful
 unfolding words_of row place atomic_at
 image_faithful m rest w =
     fields (words_of m ++ rest) m refl refl refl refl refl refl
     (filled_whole m.firsts 16 _ 0 0 w.firsts (λ i h. (has_front rest (parted m w).firsts).same i (omega arith)))
-    (filled_whole m.views 8 _ zero_view zero_view w.views (λ i h. view_back _ _ _ (w.rows i) (has_front rest (view-has m w i h))))
-    (filled_whole m.threads 8 _ (at Idle) (at Idle) w.threads (λ i h. ap at (place_back _ _ _ (has_front rest (place-has m w i h)))))
+    (filled_whole m.views 8 _ zero_view zero_view w.views (λ i h. view_back _ _ _ (w.rows i) (has_front rest (view_has m w i h))))
+    (filled_whole m.threads 8 _ (at Idle) (at Idle) w.threads (λ i h. ap at (place_back _ _ _ (has_front rest (place_has m w i h)))))
     (atomic_back _ _ _ (w.seen Head) (has_front rest (parted m w).head))
     (atomic_back _ _ _ (w.seen Tail) (has_front rest (parted m w).tail))
-    (filled_whole m.flags 8 _ zero_atomic zero_atomic w.flags (λ i h. atomic_back _ _ _ (w.seen (Flag i)) (has_front rest (flag-has m w i h))))
-    (filled_whole m.statuses 16 _ zero_atomic zero_atomic w.statuses (λ i h. atomic_back _ _ _ (w.seen (Status i)) (has_front rest (status-has m w i h))))
+    (filled_whole m.flags 8 _ zero_atomic zero_atomic w.flags (λ i h. atomic_back _ _ _ (w.seen (Flag i)) (has_front rest (flag_has m w i h))))
+    (filled_whole m.statuses 16 _ zero_atomic zero_atomic w.statuses (λ i h. atomic_back _ _ _ (w.seen (Status i)) (has_front rest (status_has m w i h))))
 
 -- what every entry read and every entry of the room has, every entry has
 read_each : {A : Type 0} (P : A → Type 0) (f : ℕ → A) (n : ℕ) (room : List A) (d : A) → ((i : ℕ) → P (f i)) → ((i : ℕ) → P (get_or room i d))

@@ -48,21 +48,21 @@ has_first a b x =
     }
 
 module _ (f : ℕ → List ℕ) (k : ℕ) (each : (j : ℕ) → length (f j) ≡ k) where
-  pub turns-length : (n : ℕ) → length (in_turn f n) ≡ k * n
+  pub turns_length : (n : ℕ) → length (in_turn f n) ≡ k * n
   unfolding in_turn
-  turns-length zero = sym (mul-zero k)
-  turns-length (suc n) = length-append (in_turn f n) (f n) ∙ rw (turns-length n, each n) (sym (mul-suc k n))
+  turns_length zero = sym (mul-zero k)
+  turns_length (suc n) = length-append (in_turn f n) (f n) ∙ rw (turns_length n, each n) (sym (mul-suc k n))
 
-  pub has-turn : (n i : ℕ) → i < n → Has (in_turn f n) (k * i) (f i)
+  pub has_turn : (n i : ℕ) → i < n → Has (in_turn f n) (k * i) (f i)
   unfolding in_turn
-  has-turn zero i h = absurd (omega arith)
-  has-turn (suc n) i h = go (dec_lt i n) (λ q. has-turn n i q)
+  has_turn zero i h = absurd (omega arith)
+  has_turn (suc n) i h = go (dec_lt i n) (λ q. has_turn n i q)
     where
       go : Dec (i < n) → (i < n → Has (in_turn f n) (k * i) (f i)) → Has (in_turn f n ++ f n) (k * i) (f i)
       go (yes q) r = has_front (f n) (r q)
       go (no q) r =
           let e : i ≡ n = omega arith in
-          rw e (has_last (in_turn f n) (f n) (k * n) (turns-length n))
+          rw e (has_last (in_turn f n) (f n) (k * n) (turns_length n))
 
 -- a list that is read entry by entry
 pub filled_whole : {A : Type 0} (l : List A) (n : ℕ) (f : ℕ → A) (d e : A) → length l ≡ n → ((i : ℕ) → i < n → f i ≡ get_or l i d)

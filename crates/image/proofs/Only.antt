@@ -12,8 +12,8 @@ use lib.Seq.{ext_get_or, get_or-append-add, get_or-take, length-take-le}
 use Rattle.laws.proofs.Lists.{filled_length, filled_here}
 use Rattle.laws.proofs.Tests.{apart, each}
 use Rattle.laws.specs.Lists.{filled}
-use Rattle.image.proofs.Faithful.{thread-length, cell-length, image_long, image_whole}
-use Rattle.image.proofs.Inside.{Has, turns-length, place_length}
+use Rattle.image.proofs.Faithful.{thread_length, cell_length, image_long, image_whole}
+use Rattle.image.proofs.Inside.{Has, turns_length, place_length}
 use Rattle.image.specs.Image.{place_words, in_turn, atomic_words, thread_words, heading, words_of, thread_at, view_at, cell_at, word, view_from, atomic_from, place_from, machine_of, is_place, is_image}
 use Rattle.image.specs.Promise.{ImageOnly}
 use Rattle.state.specs.State.{zero_atomic, at, row, place, atomic_at, Whole}
@@ -42,7 +42,7 @@ has_turns : {s : List ℕ} (f : ℕ → List ℕ) (p k n : ℕ) → ((j : ℕ) �
 unfolding in_turn
 has_turns f p k zero each h x = record { room = omega arith; same = λ i l. absurd (omega arith) }
 has_turns f p k (suc n) each h x =
-    has_then (p + k * n) (has_turns f p k n each (omega arith) (λ i l. x i (omega arith))) (omega (arith, turns-length f k each n)) (x n (omega arith))
+    has_then (p + k * n) (has_turns f p k n each (omega arith) (λ i l. x i (omega arith))) (omega (arith, turns_length f k each n)) (x n (omega arith))
 
 has_words : (s : List ℕ) (p n : ℕ) → p + n ≤ length s → Has s p (filled (λ i. word s (p + i)) n (replicate n 0))
 has_words s p n h =
@@ -85,13 +85,13 @@ module _ (s : List ℕ) (h : 1160 ≤ length s) (g : (i : ℕ) → i < 8 → is_
   entry : {A : Type 0} (f : ℕ → A) (n i : ℕ) (d e : A) → i < n → get_or (filled f n (replicate n d)) i e ≡ f i
   entry f n i d e l = filled_here f n (replicate n d) i e l (omega (arith, length-replicate n d))
 
-  has-heading : Has s 0 (heading m)
+  has_heading : Has s 0 (heading m)
   unfolding machine_of
-  has-heading = has_more (has_more (has_more (has_more (has_more (has_more (record { room = omega arith; same = λ i l. absurd (omega arith) }))))))
+  has_heading = has_more (has_more (has_more (has_more (has_more (has_more (record { room = omega arith; same = λ i l. absurd (omega arith) }))))))
 
-  has-firsts : Has s 6 m.firsts
+  has_firsts : Has s 6 m.firsts
   unfolding machine_of
-  has-firsts = has_words s 6 16 (omega arith)
+  has_firsts = has_words s 6 16 (omega arith)
 
   place_read : (i : ℕ) → i < 8 → place m i ≡ place_from s (thread_at i)
   unfolding machine_of place
@@ -101,52 +101,52 @@ module _ (s : List ℕ) (h : 1160 ≤ length s) (g : (i : ℕ) → i < 8 → is_
   unfolding machine_of row
   row_read i l = entry (λ j. view_from s (view_at j)) 8 i zero_view zero_view l
 
-  has-thread : (i : ℕ) → i < 8 → Has s (thread_at i) (thread_words m i)
-  has-thread i l =
+  has_thread : (i : ℕ) → i < 8 → Has s (thread_at i) (thread_words m i)
+  has_thread i l =
       rw (place_read i l, row_read i l)
       (has_then (view_at i) (has_place s (thread_at i) (g i l) (omega arith)) (omega (arith, place_length (place_from s (thread_at i))))
       (has_view s (view_at i) (omega arith)))
 
-  has-flag : (i : ℕ) → i < 8 → Has s (cell_at (Flag i)) (atomic_words (atomic_at m (Flag i)))
+  has_flag : (i : ℕ) → i < 8 → Has s (cell_at (Flag i)) (atomic_words (atomic_at m (Flag i)))
   unfolding machine_of atomic_at
-  has-flag i l = rw (entry (λ j. atomic_from s (cell_at (Flag j))) 8 i zero_atomic zero_atomic l) (has_cell s (cell_at (Flag i)) (omega arith))
+  has_flag i l = rw (entry (λ j. atomic_from s (cell_at (Flag j))) 8 i zero_atomic zero_atomic l) (has_cell s (cell_at (Flag i)) (omega arith))
 
-  has-status : (i : ℕ) → i < 16 → Has s (cell_at (Status i)) (atomic_words (atomic_at m (Status i)))
+  has_status : (i : ℕ) → i < 16 → Has s (cell_at (Status i)) (atomic_words (atomic_at m (Status i)))
   unfolding machine_of atomic_at
-  has-status i l = rw (entry (λ j. atomic_from s (cell_at (Status j))) 16 i zero_atomic zero_atomic l) (has_cell s (cell_at (Status i)) (omega arith))
+  has_status i l = rw (entry (λ j. atomic_from s (cell_at (Status j))) 16 i zero_atomic zero_atomic l) (has_cell s (cell_at (Status i)) (omega arith))
 
-  has-head : Has s 302 (atomic_words (atomic_at m Head))
+  has_head : Has s 302 (atomic_words (atomic_at m Head))
   unfolding machine_of atomic_at
-  has-head = has_cell s (cell_at Head) (omega arith)
+  has_head = has_cell s (cell_at Head) (omega arith)
 
-  has-tail : Has s 335 (atomic_words (atomic_at m Tail))
+  has_tail : Has s 335 (atomic_words (atomic_at m Tail))
   unfolding machine_of atomic_at
-  has-tail = has_cell s (cell_at Tail) (omega arith)
+  has_tail = has_cell s (cell_at Tail) (omega arith)
 
-  has-image : Has s 0 (words_of m)
+  has_image : Has s 0 (words_of m)
   unfolding words_of
-  has-image =
+  has_image =
       let b = heading m ++ m.firsts in
       let c = b ++ in_turn (thread_words m) 8 in
       let d = c ++ atomic_words (atomic_at m Head) in
       let f = d ++ atomic_words (atomic_at m Tail) in
       let flags = in_turn (λ i. atomic_words (atomic_at m (Flag i))) 8 in
       let to-c : length b ≡ 22 = omega (arith, length-append (heading m) m.firsts, w.firsts) in
-      let to-d : length c ≡ 302 = omega (arith, length-append b (in_turn (thread_words m) 8), turns-length (thread_words m) 35 (thread-length m w) 8) in
-      let to-e : length d ≡ 335 = omega (arith, length-append c (atomic_words (atomic_at m Head)), cell-length m w Head) in
-      let to-f : length f ≡ 368 = omega (arith, length-append d (atomic_words (atomic_at m Tail)), cell-length m w Tail) in
-      let to-g : length (f ++ flags) ≡ 632 = omega (arith, length-append f flags, turns-length (λ i. atomic_words (atomic_at m (Flag i))) 33 (λ i. cell-length m w (Flag i)) 8) in
-      has_then 632 (has_then 368 (has_then 335 (has_then 302 (has_then 22 (has_then 6 has-heading refl has-firsts) (omega arith)
-      (has_turns (thread_words m) 22 35 8 (thread-length m w) (omega arith) has-thread)) (omega arith)
-      has-head) (omega arith) has-tail) (omega arith)
-      (has_turns (λ i. atomic_words (atomic_at m (Flag i))) 368 33 8 (λ i. cell-length m w (Flag i)) (omega arith) has-flag)) (omega arith)
-      (has_turns (λ i. atomic_words (atomic_at m (Status i))) 632 33 16 (λ i. cell-length m w (Status i)) (omega arith) has-status)
+      let to-d : length c ≡ 302 = omega (arith, length-append b (in_turn (thread_words m) 8), turns_length (thread_words m) 35 (thread_length m w) 8) in
+      let to-e : length d ≡ 335 = omega (arith, length-append c (atomic_words (atomic_at m Head)), cell_length m w Head) in
+      let to-f : length f ≡ 368 = omega (arith, length-append d (atomic_words (atomic_at m Tail)), cell_length m w Tail) in
+      let to-g : length (f ++ flags) ≡ 632 = omega (arith, length-append f flags, turns_length (λ i. atomic_words (atomic_at m (Flag i))) 33 (λ i. cell_length m w (Flag i)) 8) in
+      has_then 632 (has_then 368 (has_then 335 (has_then 302 (has_then 22 (has_then 6 has_heading refl has_firsts) (omega arith)
+      (has_turns (thread_words m) 22 35 8 (thread_length m w) (omega arith) has_thread)) (omega arith)
+      has_head) (omega arith) has_tail) (omega arith)
+      (has_turns (λ i. atomic_words (atomic_at m (Flag i))) 368 33 8 (λ i. cell_length m w (Flag i)) (omega arith) has_flag)) (omega arith)
+      (has_turns (λ i. atomic_words (atomic_at m (Status i))) 632 33 16 (λ i. cell_length m w (Status i)) (omega arith) has_status)
 
 pub image_only : ImageOnly
 unfolding is_image
 image_only s e =
     let h : 1160 ≤ length s = omega (arith, leb-true _ (length s) (apart _ _ e).0) in
-    let x = has-image s h (λ i l. each _ _ (apart _ _ e).1 i l) in
+    let x = has_image s h (λ i l. each _ _ (apart _ _ e).1 i l) in
     let l = image_long (machine_of s) (image_whole s) in
     ext_get_or 0 (take 1160 s) (words_of (machine_of s)) (length-take-le 1160 s h ∙ sym l)
     (λ i b. let c : i < 1160 = omega (arith, length-take-le 1160 s h) in

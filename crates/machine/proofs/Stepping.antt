@@ -38,7 +38,7 @@ use Rattle.state.specs.declared.Machine.{Machine}
 use Rattle.step.specs.contracts.Step as P
 use Rattle.step.proofs.Step.TheLaws as P'
 use Rattle.step.specs.declared.Step.{Step}
-use Rattle.walks.proofs.Calling.{Met, calls-gave}
+use Rattle.walks.proofs.Calling.{Met, calls_gave}
 use Rattle.writes.proofs.Lent.{lent_at}
 use Rattle.writes.specs.contracts.Write as T
 use Rattle.writes.specs.declared.Write.{Write}
@@ -92,8 +92,8 @@ module _ {M : Type 1} {𝓤 : Ura M} (𝓛 : Logic 𝓤) (mem : Memory → SProp
     tt,
   )
 
-  abbrev pub to-step-anew : Step → (SteppingAnew 𝓛 mem run).Ghost
-  to-step-anew i = (
+  abbrev pub to_step_anew : Step → (SteppingAnew 𝓛 mem run).Ghost
+  to_step_anew i = (
     (
       (κ, tt),
       (s, tt),
@@ -119,7 +119,7 @@ module _ {M : Type 1} {𝓤 : Ura M} {𝓛 : Logic 𝓤} {K : Type 0} {Γ : List
   -- [the token; what the `&mut [Write]` owns; …] becomes [the token; the slice's last list; …]
   open 𝓛 use {H}
 
-  pub calls-step : K → FmC 𝓤 H 𝓛.laws C → (mem : Memory → SProp 𝓤) (run : Routine → Fun 𝓤) → Triple 𝓤 (C f) (Stepping 𝓛 mem run)
+  pub calls_step : K → FmC 𝓤 H 𝓛.laws C → (mem : Memory → SProp 𝓤) (run : Routine → Fun 𝓤) → Triple 𝓤 (C f) (Stepping 𝓛 mem run)
       → (κ : Lft) (s : Share) (b o : ℕ) (γ : GName) (ws : List Write) (m : Machine) (i : Asked)
       → Is Q.the_row m (machine_val m ∷ []) → Is S.the_row i (asked_val i ∷ [])
       → Opds K 𝓛 (raw ((Stepping 𝓛 mem run).pre (to_step 𝓛 mem run κ s b o γ ws m i)) ∷ Γ) E xs
@@ -127,27 +127,27 @@ module _ {M : Type 1} {𝓤 : Ura M} {𝓛 : Logic 𝓤} {K : Type 0} {Γ : List
       → ((r : Done) (us : List Write) → outcome r us ≡ step_by i.known m ws i.step → length us ≡ length ws → Is D.the_row r (done_val r ∷ [])
       → Seq K 𝓛 (‵ (flft κ s) ∷ ‵ (finally T.the_row γ us) ∷ Γ) (lands C Λ E d (done_val r) rest p))
       → Seq K 𝓛 (‵ (flft κ s) ∷ ‵ (Lent 𝓛 mem run κ s b o γ ws m) ∷ Γ) (runs C Λ E (seq (call f xs d) rest) p)
-  calls-step t fm mem run known κ s b o γ ws m i is_m is-i os k =
+  calls_step t fm mem run known κ s b o γ ws m i is_m is-i os k =
       use2 𝓛 (raw ((Stepping 𝓛 mem run).pre (to_step 𝓛 mem run κ s b o γ ws m i)))
       (goes 𝓛 mem run κ s b o γ ws m S.the_row (LL.makes S.the_type S'.the_plain 𝓛) i _ is_m is-i) $
-      calls-gave t fm step_by.ended (step_by.clauses 𝓛 mem run) known (to_step 𝓛 mem run κ s b o γ ws m i) κ s (fst∗ 𝓤 _ (emp 𝓤))
+      calls_gave t fm step_by.ended (step_by.clauses 𝓛 mem run) known (to_step 𝓛 mem run κ s b o γ ws m i) κ s (fst∗ 𝓤 _ (emp 𝓤))
       (LL.vals D.the_type D'.the_laws) (LL.tells D.the_type D'.the_laws) T.the_row γ (length ws) (λ us. us.1.0)
       (λ us. left_last 𝓛 γ us.1.0 (length ws))
       (λ r us. outcome r us ≡ step_by i.known m ws i.step) (λ r us. id⊢ 𝓤 _) os k
 
   -- the same of a step of which nothing is known
-  pub calls-step-anew : K → FmC 𝓤 H 𝓛.laws C → (mem : Memory → SProp 𝓤) (run : Routine → Fun 𝓤) → Triple 𝓤 (C f) (SteppingAnew 𝓛 mem run)
+  pub calls_step_anew : K → FmC 𝓤 H 𝓛.laws C → (mem : Memory → SProp 𝓤) (run : Routine → Fun 𝓤) → Triple 𝓤 (C f) (SteppingAnew 𝓛 mem run)
       → (κ : Lft) (s : Share) (b o : ℕ) (γ : GName) (ws : List Write) (m : Machine) (i : Step)
       → Is Q.the_row m (machine_val m ∷ []) → Is P.the_row i (step_val i ∷ [])
-      → Opds K 𝓛 (raw ((SteppingAnew 𝓛 mem run).pre (to-step-anew 𝓛 mem run κ s b o γ ws m i)) ∷ Γ) E xs
+      → Opds K 𝓛 (raw ((SteppingAnew 𝓛 mem run).pre (to_step_anew 𝓛 mem run κ s b o γ ws m i)) ∷ Γ) E xs
       (machine_val m ∷ slice_val (b, o) (length ws) ∷ step_val i ∷ [])
       → ((r : Done) (us : List Write) → outcome r us ≡ step_of m ws i → length us ≡ length ws → Is D.the_row r (done_val r ∷ [])
       → Seq K 𝓛 (‵ (flft κ s) ∷ ‵ (finally T.the_row γ us) ∷ Γ) (lands C Λ E d (done_val r) rest p))
       → Seq K 𝓛 (‵ (flft κ s) ∷ ‵ (Lent 𝓛 mem run κ s b o γ ws m) ∷ Γ) (runs C Λ E (seq (call f xs d) rest) p)
-  calls-step-anew t fm mem run known κ s b o γ ws m i is_m is-i os k =
-      use2 𝓛 (raw ((SteppingAnew 𝓛 mem run).pre (to-step-anew 𝓛 mem run κ s b o γ ws m i)))
+  calls_step_anew t fm mem run known κ s b o γ ws m i is_m is-i os k =
+      use2 𝓛 (raw ((SteppingAnew 𝓛 mem run).pre (to_step_anew 𝓛 mem run κ s b o γ ws m i)))
       (goes 𝓛 mem run κ s b o γ ws m P.the_row (LL.makes P.the_type P'.the_plain 𝓛) i _ is_m is-i) $
-      calls-gave t fm step.ended (step.clauses 𝓛 mem run) known (to-step-anew 𝓛 mem run κ s b o γ ws m i) κ s (fst∗ 𝓤 _ (emp 𝓤))
+      calls_gave t fm step.ended (step.clauses 𝓛 mem run) known (to_step_anew 𝓛 mem run κ s b o γ ws m i) κ s (fst∗ 𝓤 _ (emp 𝓤))
       (LL.vals D.the_type D'.the_laws) (LL.tells D.the_type D'.the_laws) T.the_row γ (length ws) (λ us. us.1.0)
       (λ us. left_last 𝓛 γ us.1.0 (length ws))
       (λ r us. outcome r us ≡ step_of m ws i) (λ r us. id⊢ 𝓤 _) os k

@@ -43,13 +43,13 @@ pub and_untaken : {a x : Bool} (b : Bool) → x ≡ a → x ≡ false → x ≡ 
 and_untaken b p t = rw (sym p ∙ t) t
 
 module _ (w : List ℕ) (j : ℕ) where
-  pub text-end : length w ≤ j → word_text (drop j w) ≡ []
+  pub text_end : length w ≤ j → word_text (drop j w) ≡ []
   unfolding word_text
-  text-end h = rw (drop_of_length-le w {i = j} h)
+  text_end h = rw (drop_of_length-le w {i = j} h)
 
-  pub text-zero : j < length w → get_or w j 0 ≡ 0 → word_text (drop j w) ≡ []
+  pub text_zero : j < length w → get_or w j 0 ≡ 0 → word_text (drop j w) ≡ []
   unfolding word_text
-  text-zero h e = rw (drop-cons w j 0 h, eq-eqb _ _ e)
+  text_zero h e = rw (drop-cons w j 0 h, eq-eqb _ _ e)
 
   pub text_more : j < length w → (get_or w j 0 ≡ 0 → ⊥) → word_text (drop j w) ≡ get_or w j 0 ∷ word_text (drop (j + 1) w)
   unfolding word_text

@@ -57,22 +57,22 @@ module _ (ss asks an : List ℕ) (ws : List Write) (ss' an' : List ℕ) (ws' : L
   own = refused_call ss asks (length an) 0
 
   -- a refused step leaves the list
-  list-came : (m : Machine) (i : Step) → outcome d ws' ≡ step_of m ws i → 0 < number_given m ws i → ws' ≡ ws
-  list-came m i o h = ap (λ (x : Outcome). x.writes) o ∙ (refused_keeps m ws i h).1
+  list_came : (m : Machine) (i : Step) → outcome d ws' ≡ step_of m ws i → 0 < number_given m ws i → ws' ≡ ws
+  list_came m i o h = ap (λ (x : Outcome). x.writes) o ∙ (refused_keeps m ws i h).1
 
   list_left : (m : Machine) (i : Step) (r : ℕ) → outcome d ws' ≡ step_of m ws i → r ≡ number_of d.answer → ws' ≡ left r ws' ws
   list_left m i zero o e = refl
-  list_left m i (suc r) o e = list-came m i o (rw (← o, ← e) (omega arith))
+  list_left m i (suc r) o e = list_came m i o (rw (← o, ← e) (omega arith))
 
-  by-own : (n r : ℕ) (i : Step) → n ≡ own → i ≡ left n (step_asked asks) no_step → outcome d ws' ≡ step_of (machine_of ss) ws i
+  by_own : (n r : ℕ) (i : Step) → n ≡ own → i ≡ left n (step_asked asks) no_step → outcome d ws' ≡ step_of (machine_of ss) ws i
       → DoneIs ss an n d r ss' an' → lent r ss' ws' an' ≡ called ss ws asks an
   unfolding called
-  by-own zero r i e is-i o w =
+  by_own zero r i e is-i o w =
       rw (call_first ss asks (length an), ← e, ← is-i, ← o, ← w.0, ← w.1, ← w.2, ← list_left (machine_of ss) i r o w.0)
-  by-own (suc n) r i e is-i o w =
-      let l : ws' ≡ ws = list-came (machine_of ss) i o (rw is-i (unasked (machine_of ss) ws)) in
+  by_own (suc n) r i e is-i o w =
+      let l : ws' ≡ ws = list_came (machine_of ss) i o (rw is-i (unasked (machine_of ss) ws)) in
       rw (call_first ss asks (length an), ← e, w.1, w.2, w.0, l)
 
   pub leaves : (c : Call) (r : ℕ) → CallIs ss asks (length an) c → outcome d ws' ≡ step_of c.machine ws c.step
       → DoneIs ss an c.number d r ss' an' → lent r ss' ws' an' ≡ called ss ws asks an
-  leaves c r is o w = by-own c.number r c.step is.0 is.2 (o ∙ rw is.1) w
+  leaves c r is o w = by_own c.number r c.step is.0 is.2 (o ∙ rw is.1) w

@@ -30,7 +30,7 @@ use Rattle.machine.proofs.Stepping.{done_val}
 use Rattle.rules.specs.contracts.Done as D
 use Rattle.rules.proofs.Done.TheLaws as D'
 use Rattle.rules.specs.declared.Done.{Done}
-use Rattle.walks.proofs.Calling.{Met, calls-left}
+use Rattle.walks.proofs.Calling.{Met, calls_left}
 use Rattle.outside.specs.declared.Call.{Call}
 use Rattle.outside.proofs.Leaves.{CallIs, DoneIs}
 use Rattle.outside.specs.contracts.Call as P
@@ -68,8 +68,8 @@ module _ {M : Type 1} {𝓤 : Ura M} (𝓛 : Logic 𝓤) (mem : Memory → SProp
     abbrev Read' : Fml
     Read' = (ShrSlice (named 1) κ' u32).own_val x' (spelled x' ∷ [])
 
-    abbrev pub to-call-of : (CallOf 𝓛 mem run).Ghost
-    to-call-of = (
+    abbrev pub to_call_of : (CallOf 𝓛 mem run).Ghost
+    to_call_of = (
       (
         (κ, (κ', tt)),
         (s, (s', tt)),
@@ -80,9 +80,9 @@ module _ {M : Type 1} {𝓤 : Ura M} (𝓛 : Logic 𝓤) (mem : Memory → SProp
       tt,
     )
 
-    goes-call-of : n < 2 ^ 64
-        → ent 𝓤 (sep 𝓤 (sep 𝓤 (A.lft κ s) (A.lft κ' s')) (sep 𝓤 (sem 𝓛 Read) (sem 𝓛 Read'))) ((CallOf 𝓛 mem run).pre to-call-of)
-    goes-call-of is-n =
+    goes_call_of : n < 2 ^ 64
+        → ent 𝓤 (sep 𝓤 (sep 𝓤 (A.lft κ s) (A.lft κ' s')) (sep 𝓤 (sem 𝓛 Read) (sem 𝓛 Read'))) ((CallOf 𝓛 mem run).pre to_call_of)
+    goes_call_of is-n =
         qed 𝓛 ((‵ (flft κ s) ⊛ ‵ (flft κ' s')) ∷ ‵ Read ∷ ‵ Read' ∷ []) ∵ split ! $ nothing ! $ move ! (2 ∷ 0 ∷ []) $ join ! $
         move ! (1 ∷ 0 ∷ []) $ join ! $ nothing ! $ owned ! usize (Is usize) (uint_Makes 𝓛 w64) n _ (refl, is-n) $ fjoin ! $
         move ! (3 ∷ 0 ∷ []) $ fjoin ! $ move ! (2 ∷ 0 ∷ []) $ fjoin ! $ move ! (1 ∷ 0 ∷ []) $ join ! $ frame ! $ done !
@@ -95,8 +95,8 @@ module _ {M : Type 1} {𝓤 : Ura M} (𝓛 : Logic 𝓤) (mem : Memory → SProp
     abbrev Answer : Fml
     Answer = (MutSlice (named 1) κ' u32).own_val (numbers_at b' o' γ' ns') (slice_val (b', o') (length ns') ∷ [])
 
-    abbrev pub to-put-done : (PutDone 𝓛 mem run).Ghost
-    to-put-done = (
+    abbrev pub to_put_done : (PutDone 𝓛 mem run).Ghost
+    to_put_done = (
       (
         (κ, (κ', tt)),
         (s, (s', tt)),
@@ -107,9 +107,9 @@ module _ {M : Type 1} {𝓤 : Ura M} (𝓛 : Logic 𝓤) (mem : Memory → SProp
       tt,
     )
 
-    goes-put-done : Is u32 n (vint w32 n ∷ []) → Is D.the_row d (done_val d ∷ [])
-        → ent 𝓤 (sep 𝓤 (sep 𝓤 (A.lft κ s) (A.lft κ' s')) (sep 𝓤 (sem 𝓛 Image) (sem 𝓛 Answer))) ((PutDone 𝓛 mem run).pre to-put-done)
-    goes-put-done is-n is-d =
+    goes_put_done : Is u32 n (vint w32 n ∷ []) → Is D.the_row d (done_val d ∷ [])
+        → ent 𝓤 (sep 𝓤 (sep 𝓤 (A.lft κ s) (A.lft κ' s')) (sep 𝓤 (sem 𝓛 Image) (sem 𝓛 Answer))) ((PutDone 𝓛 mem run).pre to_put_done)
+    goes_put_done is-n is-d =
         qed 𝓛 ((‵ (flft κ s) ⊛ ‵ (flft κ' s')) ∷ ‵ Image ∷ ‵ Answer ∷ []) ∵ split ! $ nothing ! $ move ! (2 ∷ 0 ∷ []) $ join ! $
         move ! (1 ∷ 0 ∷ []) $ join ! $ nothing ! $ owned ! D.the_row (Is D.the_row) (LL.makes D.the_type D'.the_plain 𝓛) d _ is-d $ fjoin ! $
         owned ! u32 (Is u32) (uint_Makes 𝓛 w32) n _ is-n $ fjoin ! $
@@ -120,35 +120,35 @@ module _ {M : Type 1} {𝓤 : Ura M} {𝓛 : Logic 𝓤} {K : Type 0} {Γ : List
   -- [the two tokens; what image and what is asked own; …] becomes [the two tokens; …]
   open 𝓛 use {H}
 
-  pub calls-call-of : K → FmC 𝓤 H 𝓛.laws C → (mem : Memory → SProp 𝓤) (run : Routine → Fun 𝓤) → Triple 𝓤 (C f) (CallOf 𝓛 mem run)
+  pub calls_call_of : K → FmC 𝓤 H 𝓛.laws C → (mem : Memory → SProp 𝓤) (run : Routine → Fun 𝓤) → Triple 𝓤 (C f) (CallOf 𝓛 mem run)
       → (κ : Lft) (s : Share) (κ' : Lft) (s' : Share) (x x' : Bor (List ℕ)) (n : ℕ) → n < 2 ^ 64
-      → Opds K 𝓛 (raw ((CallOf 𝓛 mem run).pre (to-call-of 𝓛 mem run κ s κ' s' x x' n)) ∷ Γ) E xs
+      → Opds K 𝓛 (raw ((CallOf 𝓛 mem run).pre (to_call_of 𝓛 mem run κ s κ' s' x x' n)) ∷ Γ) E xs
       (spelled x ∷ spelled x' ∷ vint w64 n ∷ [])
       → ((r : Call) → CallIs x.now x'.now n r → Is P.the_row r (call_val r ∷ [])
       → Seq K 𝓛 (‵ (flft κ s) ∷ ‵ (flft κ' s') ∷ Γ) (lands C Λ E l (call_val r) rest p))
       → Seq K 𝓛 (‵ (flft κ s) ∷ ‵ (flft κ' s') ∷ ‵ (Read 𝓛 mem run κ s κ' s' x x' n) ∷ ‵ (Read' 𝓛 mem run κ s κ' s' x x' n) ∷ Γ)
       (runs C Λ E (seq (call f xs l) rest) p)
-  calls-call-of t fm mem run known κ s κ' s' x x' n is-n os k =
-      join t $ use3 𝓛 (raw ((CallOf 𝓛 mem run).pre (to-call-of 𝓛 mem run κ s κ' s' x x' n))) (goes-call-of 𝓛 mem run κ s κ' s' x x' n is-n) $
-      calls-left t fm call_of.ended (call_of.clauses 𝓛 mem run) known (to-call-of 𝓛 mem run κ s κ' s' x x' n)
+  calls_call_of t fm mem run known κ s κ' s' x x' n is-n os k =
+      join t $ use3 𝓛 (raw ((CallOf 𝓛 mem run).pre (to_call_of 𝓛 mem run κ s κ' s' x x' n))) (goes_call_of 𝓛 mem run κ s κ' s' x x' n is-n) $
+      calls_left t fm call_of.ended (call_of.clauses 𝓛 mem run) known (to_call_of 𝓛 mem run κ s κ' s' x x' n)
       (‵ (flft κ s) ⊛ ‵ (flft κ' s') ⊛ ‵ ftrue) (id⊢ 𝓤 _) (LL.vals P.the_type P'.the_laws) (LL.tells P.the_type P'.the_laws)
       (λ r us. CallIs x.now x'.now n r) (λ r us. id⊢ 𝓤 _) os
       (λ r us e is. drop t $ split t $ move t (1 ∷ []) $ split t $ move t (1 ∷ []) $ drop t $ move t (1 ∷ 0 ∷ []) $ k r e is)
 
   -- [the two tokens; what image and answer own; …] becomes [the two tokens; their last numbers; …]
-  pub calls-put-done : K → FmC 𝓤 H 𝓛.laws C → (mem : Memory → SProp 𝓤) (run : Routine → Fun 𝓤) → Triple 𝓤 (C f) (PutDone 𝓛 mem run)
+  pub calls_put_done : K → FmC 𝓤 H 𝓛.laws C → (mem : Memory → SProp 𝓤) (run : Routine → Fun 𝓤) → Triple 𝓤 (C f) (PutDone 𝓛 mem run)
       → (κ : Lft) (s : Share) (κ' : Lft) (s' : Share) (b o : ℕ) (γ : GName) (ns : List ℕ) (b' o' : ℕ) (γ' : GName) (ns' : List ℕ) (n : ℕ) (d : Done)
       → Is u32 n (vint w32 n ∷ []) → Is D.the_row d (done_val d ∷ [])
-      → Opds K 𝓛 (raw ((PutDone 𝓛 mem run).pre (to-put-done 𝓛 mem run κ s κ' s' b o γ ns b' o' γ' ns' n d)) ∷ Γ) E xs
+      → Opds K 𝓛 (raw ((PutDone 𝓛 mem run).pre (to_put_done 𝓛 mem run κ s κ' s' b o γ ns b' o' γ' ns' n d)) ∷ Γ) E xs
       (slice_val (b, o) (length ns) ∷ slice_val (b', o') (length ns') ∷ vint w32 n ∷ done_val d ∷ [])
       → ((r : ℕ) (us us' : List ℕ) → DoneIs ns ns' n d r us us' → Is u32 r (vint w32 r ∷ []) → length us ≡ length ns → length us' ≡ length ns'
       → Seq K 𝓛 (‵ (flft κ s) ∷ ‵ (flft κ' s') ∷ ‵ (finally u32 γ us) ∷ ‵ (finally u32 γ' us') ∷ Γ) (lands C Λ E l (vint w32 r) rest p))
       → Seq K 𝓛 (‵ (flft κ s) ∷ ‵ (flft κ' s') ∷ ‵ (Image 𝓛 mem run κ s κ' s' b o γ ns b' o' γ' ns' n d)
       ∷ ‵ (Answer 𝓛 mem run κ s κ' s' b o γ ns b' o' γ' ns' n d) ∷ Γ) (runs C Λ E (seq (call f xs l) rest) p)
-  calls-put-done t fm mem run known κ s κ' s' b o γ ns b' o' γ' ns' n d is-n is-d os k =
-      join t $ use3 𝓛 (raw ((PutDone 𝓛 mem run).pre (to-put-done 𝓛 mem run κ s κ' s' b o γ ns b' o' γ' ns' n d)))
-      (goes-put-done 𝓛 mem run κ s κ' s' b o γ ns b' o' γ' ns' n d is-n is-d) $
-      calls-left t fm put_done.ended (put_done.clauses 𝓛 mem run) known (to-put-done 𝓛 mem run κ s κ' s' b o γ ns b' o' γ' ns' n d)
+  calls_put_done t fm mem run known κ s κ' s' b o γ ns b' o' γ' ns' n d is-n is-d os k =
+      join t $ use3 𝓛 (raw ((PutDone 𝓛 mem run).pre (to_put_done 𝓛 mem run κ s κ' s' b o γ ns b' o' γ' ns' n d)))
+      (goes_put_done 𝓛 mem run κ s κ' s' b o γ ns b' o' γ' ns' n d is-n is-d) $
+      calls_left t fm put_done.ended (put_done.clauses 𝓛 mem run) known (to_put_done 𝓛 mem run κ s κ' s' b o γ ns b' o' γ' ns' n d)
       (‵ (flft κ s) ⊛ ‵ (flft κ' s') ⊛ ‵ ftrue) (id⊢ 𝓤 _) (uint_vals w32) (uint_Tells w32)
       (λ r us. DoneIs ns ns' n d r us.0 us.1.0) (λ r us. id⊢ 𝓤 _) os
       (λ r us e is. fsplit t $ fsplit t $ move t (1 ∷ []) $ feq_l t (λ n₀. move t (1 ∷ []) $ fsplit t $ fsplit t $ move t (1 ∷ []) $ feq_l t (λ n₁.

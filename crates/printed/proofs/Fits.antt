@@ -75,17 +75,17 @@ InRange (Refused k) = ⊥
 
 -- the longest: a number, `got` and a weight
 module _ (n d : ℕ) (h : length (number_text n) ≤ d) where
-  says-short : (w : Word) → length (printed_text (Two (Counts n) (Says w))) ≤ d + 17
+  says_short : (w : Word) → length (printed_text (Two (Counts n) (Says w))) ≤ d + 17
   unfolding field_text
-  says-short w = omega (arith, two_width (Counts n) (Says w), spelled_short w)
+  says_short w = omega (arith, two_width (Counts n) (Says w), spelled_short w)
 
-  pub answer-short : (a : Answer) → InRange a → length (printed_text (answer_line n a)) ≤ d + 17
+  pub answer_short : (a : Answer) → InRange a → length (printed_text (answer_line n a)) ≤ d + 17
   unfolding answer_line field_text spelled
-  answer-short Dash r = says-short word.Dash
-  answer-short Ok r = says-short word.Ok
-  answer-short (Value v) r = omega (arith, two_width (Counts n) (Weighs v), weight_width v r)
-  answer-short Yes r = says-short word.Yes
-  answer-short No r = says-short word.No
-  answer-short None r = says-short word.None
-  answer-short (Got w) r = omega (arith, three_width (Counts n) (Says word.Got) (Weighs w), weight_width w r)
-  answer-short (Refused k) r = absurd r
+  answer_short Dash r = says_short word.Dash
+  answer_short Ok r = says_short word.Ok
+  answer_short (Value v) r = omega (arith, two_width (Counts n) (Weighs v), weight_width v r)
+  answer_short Yes r = says_short word.Yes
+  answer_short No r = says_short word.No
+  answer_short None r = says_short word.None
+  answer_short (Got w) r = omega (arith, three_width (Counts n) (Says word.Got) (Weighs w), weight_width w r)
+  answer_short (Refused k) r = absurd r

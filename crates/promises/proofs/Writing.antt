@@ -28,14 +28,14 @@ use Rattle.writer.specs.declared.LineWritten.TheVariants.{Upto, NotInRange, NoRo
 
 -- a line in range, with room or not
 module _ (l : List ℕ) (at : ℕ) (x : Line) (r : line_in_range x ≡ true) where
-  written-room : room l at (length (line_text x)) ≡ true
+  written_room : room l at (length (line_text x)) ≡ true
       → (line_written l at x ≡ Upto (at + length (line_text x))) × (line_placed l at x ≡ sets l at (line_text x))
   unfolding line_written line_placed placed
-  written-room e = (rw (r, e), rw (r, e))
+  written_room e = (rw (r, e), rw (r, e))
 
-  written-short : room l at (length (line_text x)) ≡ false → (line_written l at x ≡ NoRoom) × (line_placed l at x ≡ l)
+  written_short : room l at (length (line_text x)) ≡ false → (line_written l at x ≡ NoRoom) × (line_placed l at x ≡ l)
   unfolding line_written line_placed placed
-  written-short e = (rw (r, e), rw (r, e))
+  written_short e = (rw (r, e), rw (r, e))
 
 written_out : (l : List ℕ) (at : ℕ) (x : Line) → line_in_range x ≡ false → (line_written l at x ≡ NotInRange) × (line_placed l at x ≡ l)
 unfolding line_written line_placed
@@ -48,8 +48,8 @@ by_answer : (P : LineWritten → List ℕ → Type 0) (l : List ℕ) (at : ℕ) 
 by_answer P l at x fits short out =
     ⊎_elim
     (λ (r : line_in_range x ≡ true). ⊎_elim
-    (λ (e : room l at (length (line_text x)) ≡ true). let w = written-room l at x r e in rw (w.0, w.1) (fits r (room_yes l at (length (line_text x)) e)))
-    (λ (e : room l at (length (line_text x)) ≡ false). let w = written-short l at x r e in rw (w.0, w.1) short)
+    (λ (e : room l at (length (line_text x)) ≡ true). let w = written_room l at x r e in rw (w.0, w.1) (fits r (room_yes l at (length (line_text x)) e)))
+    (λ (e : room l at (length (line_text x)) ≡ false). let w = written_short l at x r e in rw (w.0, w.1) short)
     (either (room l at (length (line_text x)))))
     (λ (e : line_in_range x ≡ false). let w = written_out l at x e in rw (w.0, w.1) out)
     (either (line_in_range x))

@@ -39,6 +39,6 @@ module _ (m : Machine) (ws : List Write) (s : Step) where
       (admits p.0, p.1)
 
   -- and back
-  pub taken-if : Admitted m ws s → Fits m ws (s.thread - 1) (asked m s) → refusal_of m ws s ≡ 0
+  pub taken_if : Admitted m ws s → Fits m ws (s.thread - 1) (asked m s) → refusal_of m ws s ≡ 0
   unfolding refusal_of
-  taken-if A F = unrefused (stands m ws) m (length ws) s (asked m s) (found_by m ws (asked m s)) (passes A) F
+  taken_if A F = unrefused (stands m ws) m (length ws) s (asked m s) (found_by m ws (asked m s)) (passes A) F

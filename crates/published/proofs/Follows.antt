@@ -7,9 +7,9 @@ use Rattle.rules.proofs.Refused.{numbered, taken_counts}
 use Rattle.rules.proofs.Room.{room_kept}
 use Rattle.rules.specs.Access.{found_by}
 use Rattle.rules.specs.Step.{taken_by, asked, refusal_of, decided_of, Outcome, outcome, step_of}
-use Rattle.published.proofs.Admission.{taken-if, Fits, admitted}
+use Rattle.published.proofs.Admission.{taken_if, Fits, admitted}
 use Rattle.standing.proofs.Bounds.{bounds}
-use Rattle.published.proofs.Lines.{by-verb}
+use Rattle.published.proofs.Lines.{by_verb}
 use Rattle.published.proofs.Made.{Made}
 use Rattle.published.proofs.Premises.{meets, tested}
 use Rattle.published.specs.Calls.{stamp_in}
@@ -33,7 +33,7 @@ unfolding taken_by
 made m ws s W e A F =
     let B = bounds m ws A.stand in
     subst (λ (o : Outcome). Made m ws (s.thread - 1) (running m s) (stamp_in s.verb) o.done o.writes) (taken m ws s e)
-    (by-verb m ws (s.thread - 1) W B (omega (arith, A.thread, B.threads)) (m.steps + 1) s.verb (place m (s.thread - 1)) refl A.due A.cell A.room F)
+    (by_verb m ws (s.thread - 1) W B (omega (arith, A.thread, B.threads)) (m.steps + 1) s.verb (place m (s.thread - 1)) refl A.due A.cell A.room F)
 
 pub taken_follows : TakenFollows
 taken_follows m ws s W n =
@@ -46,4 +46,4 @@ pub allowed_taken : AllowedTaken
 allowed_taken m ws s A P =
     let x = meets _ _ _ _ _ _ _ _ _ P.makes P.rule in
     let t = tested m ws s A.due in
-    numbered m ws s ∙ taken-if m ws s A (t.view.1 x.0, t.history.1 x.1)
+    numbered m ws s ∙ taken_if m ws s A (t.view.1 x.0, t.history.1 x.1)

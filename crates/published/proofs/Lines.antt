@@ -22,7 +22,7 @@ use Rattle.refusal.proofs.Passed.{among_some}
 use Rattle.rules.proofs.Accessed.{accessed_place}
 use Rattle.laws.proofs.Tests.{neither}
 use Rattle.standing.proofs.Bounds.{Bounds}
-use Rattle.published.proofs.Made.{Made, read_plain, write-plain, read-atomic, write-atomic, win, lose}
+use Rattle.published.proofs.Made.{Made, read_plain, write_plain, read_atomic_lem, write_atomic_lem, win, lose}
 use Rattle.published.specs.Calls.{Code, if_code, item, status, rest_of, code_of, stamp_in, answers, reads, writes, reads_at, writes_at, swaps_at}
 use Rattle.published.specs.Follows.{Left}
 use Rattle.published.specs.Memory.{Loc, Has}
@@ -68,8 +68,8 @@ module _ (m : Machine) (ws : List Write) (i : ℕ) (W : Whole m) (B : Bounds m.s
       go : (z : Bool) → eqb (atomic_at m (status m.shape j)).value due ≡ z
           → Runs (reads_at (status m.shape j) (λ x. if_code (eqb x due) (rest_of m.shape p) (answers lost))) t
           (goes_on z (read_atomic m i (status m.shape j)) i p lost) ws
-      go true e = read-atomic m ws i W B l k _ t _ p Dash (slotted j) (rw e (on p h))
-      go false e = read-atomic m ws i W B l k _ t _ Idle lost (slotted j) (rw e (over lost))
+      go true e = read_atomic_lem m ws i W B l k _ t _ p Dash (slotted j) (rw e (on p h))
+      go false e = read_atomic_lem m ws i W B l k _ t _ Idle lost (slotted j) (rw e (over lost))
 
   -- third of a call
   swapped : (A : Name) (j t : ℕ) (p : Place) (lost : Answer) → Has m.shape A → 1 ≤ due_at p
@@ -85,7 +85,7 @@ module _ (m : Machine) (ws : List Write) (i : ℕ) (W : Whole m) (B : Bounds m.s
   -- fifth of a call
   closed : (j x t : ℕ) (a : Answer) → Runs (writes_at (status m.shape j) x (answers a)) t (closes m i j x a) ws
   unfolding closes slot_of
-  closed j x t a = write-atomic m ws i W B l k _ t x _ Idle a (slotted j) (over a)
+  closed j x t a = write_atomic_lem m ws i W B l k _ t x _ Idle a (slotted j) (over a)
 
   -- a swap of a flag
   exchanged : (A : Name) (u x t : ℕ) → Has m.shape A → Runs (swaps_at A u x (answers Yes) (answers No)) t (won_answer (swapped_of m i A u x) i) ws
@@ -108,7 +108,7 @@ module _ (m : Machine) (ws : List Write) (i : ℕ) (W : Whole m) (B : Bounds m.s
       → Runs (writes c v d) t (ends (accessed m i (Writes c t v)) i p a) (recorded (Writes c t v) m.held ws)
   unfolding found_by
   stored c t v d p a h f o r =
-      write-plain m ws i W B l k c t v d p a h (leb-false _ _ (neither _ _ f).1) (hidden _ o.1) (leb-false _ _ o.0) r
+      write_plain m ws i W B l k c t v d p a h (leb-false _ _ (neither _ _ f).1) (hidden _ o.1) (leb-false _ _ o.0) r
 
   -- the locations that lines name
   flagged : (f : ℕ) → among f m.shape.flags ≡ true → Has m.shape (Flag (f - 1))
@@ -121,34 +121,34 @@ module _ (m : Machine) (ws : List Write) (i : ℕ) (W : Whole m) (B : Bounds m.s
   itemed j = omega (arith, mod-lt j B.some_slot)
 
   -- a verb that no test refuses, for a thread at place p
-  pub by-verb : (v : Verb) (p : Place) → place m i ≡ p → asks v ≡ due_at p → named m.shape v ≡ true
+  pub by_verb : (v : Verb) (p : Place) → place m i ≡ p → asks v ≡ due_at p → named m.shape v ≡ true
       → full (access_of m.shape v p) m.held (length ws) ≡ false → Fits m ws i (access_of m.shape v p)
       → Runs (code_of m.shape v p) (stamp_in v)
       (acted (accessed m i (access_of m.shape v p)) i v (value_of (found_by m ws (access_of m.shape v p)))) (recorded (access_of m.shape v p) m.held ws)
   unfolding acted accessed recorded resumed slot_cell slot_of free_status full_status lapped atomic_at
-  by-verb (Get c t) p e d n f o = fetched c t _ Idle _ (celled c n) o (over _)
-  by-verb (Set c v t) p e d n f o = stored c t v _ Idle Ok (celled c n) f o (over Ok)
-  by-verb (Load x) p e d n f o = read-atomic m ws i W B l k (Flag (x - 1)) 0 _ Idle _ (flagged x n) (over _)
-  by-verb (Store x v) p e d n f o = write-atomic m ws i W B l k (Flag (x - 1)) 0 v _ Idle Ok (flagged x n) (over Ok)
-  by-verb (Swap x u v) p e d n f o = exchanged (Flag (x - 1)) u v 0 (flagged x n)
-  by-verb (Put w) p e d n f o = read-atomic m ws i W B l k Head 0 _ _ Dash tt (on (PutStatus m.head.value w) (omega arith))
-  by-verb Take p e d n f o = read-atomic m ws i W B l k Tail 0 _ _ Dash tt (on (TakeStatus m.tail.value) (omega arith))
-  by-verb Go Idle e d n f o = absurd (omega arith)
-  by-verb Go (PutStatus h w) e d n f o = rw e (looked h (2 * h) 0 (PutSwap h w) No (omega arith))
-  by-verb Go (PutSwap h w) e d n f o = rw e (swapped Head h 0 (PutWrite h w) No tt (omega arith))
-  by-verb Go (PutWrite h w) e d n f o = absurd (omega arith)
-  by-verb Go (PutPublish h) e d n f o = rw e (closed h (2 * h + 1) 0 Yes)
-  by-verb Go (TakeStatus t) e d n f o = rw e (looked t (2 * t + 1) 0 (TakeSwap t) None (omega arith))
-  by-verb Go (TakeSwap t) e d n f o = rw e (swapped Tail t 0 (TakeRead t) None tt (omega arith))
-  by-verb Go (TakeRead t) e d n f o = absurd (omega arith)
-  by-verb Go (TakeFree t w) e d n f o = rw e (closed t (2 * (t + m.shape.slots)) 0 (Got w))
-  by-verb (GoAt z) Idle e d n f o = absurd (omega arith)
-  by-verb (GoAt z) (PutStatus h w) e d n f o = absurd (omega arith)
-  by-verb (GoAt z) (PutSwap h w) e d n f o = absurd (omega arith)
-  by-verb (GoAt z) (PutWrite h w) e d n f o =
+  by_verb (Get c t) p e d n f o = fetched c t _ Idle _ (celled c n) o (over _)
+  by_verb (Set c v t) p e d n f o = stored c t v _ Idle Ok (celled c n) f o (over Ok)
+  by_verb (Load x) p e d n f o = read_atomic_lem m ws i W B l k (Flag (x - 1)) 0 _ Idle _ (flagged x n) (over _)
+  by_verb (Store x v) p e d n f o = write_atomic_lem m ws i W B l k (Flag (x - 1)) 0 v _ Idle Ok (flagged x n) (over Ok)
+  by_verb (Swap x u v) p e d n f o = exchanged (Flag (x - 1)) u v 0 (flagged x n)
+  by_verb (Put w) p e d n f o = read_atomic_lem m ws i W B l k Head 0 _ _ Dash tt (on (PutStatus m.head.value w) (omega arith))
+  by_verb Take p e d n f o = read_atomic_lem m ws i W B l k Tail 0 _ _ Dash tt (on (TakeStatus m.tail.value) (omega arith))
+  by_verb Go Idle e d n f o = absurd (omega arith)
+  by_verb Go (PutStatus h w) e d n f o = rw e (looked h (2 * h) 0 (PutSwap h w) No (omega arith))
+  by_verb Go (PutSwap h w) e d n f o = rw e (swapped Head h 0 (PutWrite h w) No tt (omega arith))
+  by_verb Go (PutWrite h w) e d n f o = absurd (omega arith)
+  by_verb Go (PutPublish h) e d n f o = rw e (closed h (2 * h + 1) 0 Yes)
+  by_verb Go (TakeStatus t) e d n f o = rw e (looked t (2 * t + 1) 0 (TakeSwap t) None (omega arith))
+  by_verb Go (TakeSwap t) e d n f o = rw e (swapped Tail t 0 (TakeRead t) None tt (omega arith))
+  by_verb Go (TakeRead t) e d n f o = absurd (omega arith)
+  by_verb Go (TakeFree t w) e d n f o = rw e (closed t (2 * (t + m.shape.slots)) 0 (Got w))
+  by_verb (GoAt z) Idle e d n f o = absurd (omega arith)
+  by_verb (GoAt z) (PutStatus h w) e d n f o = absurd (omega arith)
+  by_verb (GoAt z) (PutSwap h w) e d n f o = absurd (omega arith)
+  by_verb (GoAt z) (PutWrite h w) e d n f o =
       rw (accessed_place m i (Writes (item m.shape h) z w) i, e) (stored (item m.shape h) z w _ (PutPublish h) Dash (itemed h) f o (on (PutPublish h) (omega arith)))
-  by-verb (GoAt z) (PutPublish h) e d n f o = absurd (omega arith)
-  by-verb (GoAt z) (TakeStatus t) e d n f o = absurd (omega arith)
-  by-verb (GoAt z) (TakeSwap t) e d n f o = absurd (omega arith)
-  by-verb (GoAt z) (TakeRead t) e d n f o = rw e (fetched (item m.shape t) z _ _ Dash (itemed t) o (on (TakeFree t _) (omega arith)))
-  by-verb (GoAt z) (TakeFree t w) e d n f o = absurd (omega arith)
+  by_verb (GoAt z) (PutPublish h) e d n f o = absurd (omega arith)
+  by_verb (GoAt z) (TakeStatus t) e d n f o = absurd (omega arith)
+  by_verb (GoAt z) (TakeSwap t) e d n f o = absurd (omega arith)
+  by_verb (GoAt z) (TakeRead t) e d n f o = rw e (fetched (item m.shape t) z _ _ Dash (itemed t) o (on (TakeFree t _) (omega arith)))
+  by_verb (GoAt z) (TakeFree t w) e d n f o = absurd (omega arith)

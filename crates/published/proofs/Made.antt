@@ -12,7 +12,7 @@ use Rattle.rules.specs.Calls.{ends}
 use Rattle.rules.specs.Step.{counted}
 use Rattle.rules.specs.declared.Done.{Done}
 use Rattle.standing.proofs.Bounds.{Bounds}
-use Rattle.published.proofs.Rules.{settled, reads_plain, writes-plain, reads-atomic, writes-atomic, swaps-atomic, row_written}
+use Rattle.published.proofs.Rules.{settled, reads_plain, writes_plain, reads_atomic, writes_atomic, swaps_atomic, row_written}
 use Rattle.state.proofs.Changed.{row_else, place_here, place_else, atomic_leaves}
 use Rattle.published.specs.Calls.{write, Code, Makes, reads, writes, reads_at, writes_at, swaps_at, read, read_at, write_at, swap_won, swap_lost}
 use Rattle.published.specs.Follows.{store_of, stamps_of, Left, Listed}
@@ -79,9 +79,9 @@ module _ (m : Machine) (ws : List Write) (i : ℕ) (W : Whole m) (B : Bounds m.s
   }
 
   -- how many writes an atomic write leaves held
-  gave-held : (A : Name) (x : ℕ) → (write_atomic m i A x).held ≡ m.held
+  gave_held : (A : Name) (x : ℕ) → (write_atomic m i A x).held ≡ m.held
   unfolding write_atomic read_atomic with_row
-  gave-held A x = atomic_leaves (λ s h f vs ts. h) (read_atomic m i A) A (atomic x (told m i A))
+  gave_held A x = atomic_leaves (λ s h f vs ts. h) (read_atomic m i A) A (atomic x (told m i A))
 
   -- a plain read, a plain write
   pub read_plain : (c t v : ℕ) (f : ℕ → Code) (p : Place) (a : Answer) → Loc m.shape c → found (first_of m (c - 1)) ws c t m.held ≡ Present v
@@ -89,33 +89,33 @@ module _ (m : Machine) (ws : List Write) (i : ℕ) (W : Whole m) (B : Bounds m.s
   read_plain c t v f p a o h b r =
       ended _ t _ (f v) m ws p a (read c f t v) (reads_plain m ws i W B l c t v o h b) r (record { threads = refl; rows = λ j o. refl }) (refl, refl)
 
-  pub write-plain : (c t v : ℕ) (d : Code) (p : Place) (a : Answer) → Loc m.shape c → m.held < length ws
+  pub write_plain : (c t v : ℕ) (d : Code) (p : Place) (a : Answer) → Loc m.shape c → m.held < length ws
       → found (first_of m (c - 1)) ws c t m.held ≡ Missing → stamp_of (row m i) (c - 1) < t → Left m.shape p a d
       → Made m ws i (writes c v d) t (counted k (ends (accessed m i (Writes c t v)) i p a)) (recorded (Writes c t v) m.held ws)
   unfolding recorded accessed with_row
-  write-plain c t v d p a o q h b r =
-      ended _ t _ d _ _ p a (write c v d t) (writes-plain m ws i W B l c t v o q h b) r (wrote c t v)
+  write_plain c t v d p a o q h b r =
+      ended _ t _ d _ _ p a (write c v d t) (writes_plain m ws i W B l c t v o q h b) r (wrote c t v)
       (refl, set_length ws m.held new, set_here ws m.held new no_write q, λ n o. set_else ws m.held n new no_write o)
     where
       new : Write
       new = record { cell = c; stamp = t; value = v }
 
   -- an atomic read, an atomic write
-  pub read-atomic : (A : Name) (t : ℕ) (f : ℕ → Code) (p : Place) (a : Answer) → Has m.shape A → Left m.shape p a (f (atomic_at m A).value)
+  pub read_atomic_lem : (A : Name) (t : ℕ) (f : ℕ → Code) (p : Place) (a : Answer) → Has m.shape A → Left m.shape p a (f (atomic_at m A).value)
       → Made m ws i (reads_at A f) t (counted k (ends (read_atomic m i A) i p a)) ws
   unfolding read_atomic with_row
-  read-atomic A t f p a h r = ended _ t _ _ _ ws p a (read_at A f t _) (reads-atomic m ws i W B l A h) r (seen A) (refl, refl)
+  read_atomic_lem A t f p a h r = ended _ t _ _ _ ws p a (read_at A f t _) (reads_atomic m ws i W B l A h) r (seen A) (refl, refl)
 
-  pub write-atomic : (A : Name) (t x : ℕ) (d : Code) (p : Place) (a : Answer) → Has m.shape A → Left m.shape p a d
+  pub write_atomic_lem : (A : Name) (t x : ℕ) (d : Code) (p : Place) (a : Answer) → Has m.shape A → Left m.shape p a d
       → Made m ws i (writes_at A x d) t (counted k (ends (write_atomic m i A x) i p a)) ws
-  write-atomic A t x d p a h r = ended _ t _ d _ ws p a (write_at A x d t) (writes-atomic m ws i W B l A x h) r (gave A x) (gave-held A x, refl)
+  write_atomic_lem A t x d p a h r = ended _ t _ d _ ws p a (write_at A x d t) (writes_atomic m ws i W B l A x h) r (gave A x) (gave_held A x, refl)
 
   -- a swap that is won, a swap that is lost
   pub win : (A : Name) (t u x : ℕ) (c d : Code) (p : Place) (a : Answer) → Has m.shape A → (atomic_at m A).value ≡ u → Left m.shape p a c
       → Made m ws i (swaps_at A u x c d) t (counted k (ends (write_atomic m i A x) i p a)) ws
-  win A t u x c d p a h e r = ended _ t _ c _ ws p a (swap_won A u x c d t) (swaps-atomic m ws i W B l A u x h e) r (gave A x) (gave-held A x, refl)
+  win A t u x c d p a h e r = ended _ t _ c _ ws p a (swap_won A u x c d t) (swaps_atomic m ws i W B l A u x h e) r (gave A x) (gave_held A x, refl)
 
   pub lose : (A : Name) (t u x : ℕ) (c d : Code) (p : Place) (a : Answer) → Has m.shape A → (atomic_at m A).value ≢ u → Left m.shape p a d
       → Made m ws i (swaps_at A u x c d) t (counted k (ends (read_atomic m i A) i p a)) ws
   unfolding read_atomic with_row
-  lose A t u x c d p a h n r = ended _ t _ d _ ws p a (swap_lost A u x c d t _ n) (reads-atomic m ws i W B l A h) r (seen A) (refl, refl)
+  lose A t u x c d p a h n r = ended _ t _ d _ ws p a (swap_lost A u x c d t _ n) (reads_atomic m ws i W B l A h) r (seen A) (refl, refl)

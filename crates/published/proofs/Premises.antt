@@ -60,18 +60,18 @@ module _ (m : Machine) (ws : List Write) (i : ℕ) where
     pub view : (outdated a (row m i) ≡ false) ↔ ViewPremise (stamps_of m i) c t
     pub history : (amiss a (found_by m ws a) ≡ false) ↔ HistoryPremise (store_of m ws) c t
 
-  read-tests : (c t : ℕ) (f : ℕ → Code) → Tests (Reads c t) (reads c f) t
+  read_tests : (c t : ℕ) (f : ℕ → Code) → Tests (Reads c t) (reads c f) t
   unfolding found_by
-  read-tests c t f = record { view = (ltb-false _ _, le-ltb _ _); history = shows _ }
+  read_tests c t f = record { view = (ltb-false _ _, le-ltb _ _); history = shows _ }
 
-  write-tests : (c t v : ℕ) (d : Code) → Tests (Writes c t v) (writes c v d) t
+  write_tests : (c t v : ℕ) (d : Code) → Tests (Writes c t v) (writes c v d) t
   unfolding found_by
-  write-tests c t v d = record { view = (leb-false _ _, lt-leb _ _); history = hides _ }
+  write_tests c t v d = record { view = (leb-false _ _, lt-leb _ _); history = hides _ }
 
   pub tests : (v : Verb) (p : Place) → asks v ≡ due_at p → Tests (access_of m.shape v p) (code_of m.shape v p) (stamp_in v)
   unfolding slot_cell slot_of
-  tests (Get c t) p d = read-tests c t _
-  tests (Set c v t) p d = write-tests c t v _
+  tests (Get c t) p d = read_tests c t _
+  tests (Set c v t) p d = write_tests c t v _
   tests (Load f) p d = record { view = none; history = none }
   tests (Store f v) p d = record { view = none; history = none }
   tests (Swap f u v) p d = record { view = none; history = none }
@@ -89,11 +89,11 @@ module _ (m : Machine) (ws : List Write) (i : ℕ) where
   tests (GoAt t) Idle d = absurd (omega arith)
   tests (GoAt t) (PutStatus h w) d = absurd (omega arith)
   tests (GoAt t) (PutSwap h w) d = absurd (omega arith)
-  tests (GoAt t) (PutWrite h w) d = write-tests (item m.shape h) t w _
+  tests (GoAt t) (PutWrite h w) d = write_tests (item m.shape h) t w _
   tests (GoAt t) (PutPublish h) d = absurd (omega arith)
   tests (GoAt t) (TakeStatus r) d = absurd (omega arith)
   tests (GoAt t) (TakeSwap r) d = absurd (omega arith)
-  tests (GoAt t) (TakeRead r) d = read-tests (item m.shape r) t _
+  tests (GoAt t) (TakeRead r) d = read_tests (item m.shape r) t _
   tests (GoAt t) (TakeFree r w) d = absurd (omega arith)
 
 pub tested : (m : Machine) (ws : List Write) (s : Step) → asks s.verb ≡ due_at (place m (s.thread - 1))

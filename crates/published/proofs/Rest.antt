@@ -66,14 +66,14 @@ module _ (s : Shape) where
   due (TakeRead t) = 0
   due (TakeFree t w) = 0
 
-  abbrev backOf : ℕ → Place → Place
-  backOf x p = back s.slots x 0 (rest_of s p)
+  abbrev back_of : ℕ → Place → Place
+  back_of x p = back s.slots x 0 (rest_of s p)
 
   -- any status leads back to the place, but that it may lead nowhere where it is not the one due
   abbrev Leads : ℕ → Place → Place → Type 0
   Leads x p q = (q ≡ p) ⊎ ((q ≡ Idle) × (x ≢ due p))
 
-  leads : (x : ℕ) (p : Place) → Leads x p (backOf x p)
+  leads : (x : ℕ) (p : Place) → Leads x p (back_of x p)
   unfolding back
   leads x Idle = inl refl
   leads x (PutStatus h w) = go (eqb x (2 * h)) refl
@@ -93,13 +93,13 @@ module _ (s : Shape) where
   leads x (TakeRead t) = inl (ap TakeRead (laps t s.slots))
   leads x (TakeFree t w) = inl (ap (λ (k : ℕ). TakeFree k w) (laps t s.slots))
 
-  one-rest : (p q : Place) → p ≢ Idle → rest_of s p ≡ rest_of s q → p ≡ q
-  one-rest p q n e = go (leads (due p) p) (leads (due p) q)
+  one_rest : (p q : Place) → p ≢ Idle → rest_of s p ≡ rest_of s q → p ≡ q
+  one_rest p q n e = go (leads (due p) p) (leads (due p) q)
     where
-      same : backOf (due p) p ≡ backOf (due p) q
+      same : back_of (due p) p ≡ back_of (due p) q
       same = ap (back s.slots (due p) 0) e
 
-      go : Leads (due p) p (backOf (due p) p) → Leads (due p) q (backOf (due p) q) → p ≡ q
+      go : Leads (due p) p (back_of (due p) p) → Leads (due p) q (back_of (due p) q) → p ≡ q
       go (inl x) (inl y) = sym x ∙ same ∙ y
       go (inl x) (inr y) = absurd (n (sym x ∙ same ∙ y.0))
       go (inr x) y = absurd (x.1 refl)
@@ -123,4 +123,4 @@ module _ (s : Shape) where
       said x y d = cc
   one_left c p q a b (inl (i, e)) (inr (n, f, j)) = absurd (omega (arith, waits q n, ap waits_for (sym e ∙ f)))
   one_left c p q a b (inr (n, f, j)) (inl (i, e)) = absurd (omega (arith, waits p n, ap waits_for (sym e ∙ f)))
-  one_left c p q a b (inr (n, f, j)) (inr (n', f', j')) = (one-rest p q n (sym f ∙ f'), j ∙ sym j')
+  one_left c p q a b (inr (n, f, j)) (inr (n', f', j')) = (one_rest p q n (sym f ∙ f'), j ∙ sym j')

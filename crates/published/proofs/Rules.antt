@@ -93,11 +93,11 @@ module _ (m : Machine) (ws : List Write) (i : ℕ) (W : Whole m) (B : Bounds m.s
   reads_plain c t v o h b = mem_na_read c t v _ _ o h b ((λ a s o. refl), (λ A q. (refl, λ a o. refl))) (λ a o. refl)
 
   -- a plain write: thread i's own view of the cell moves to the stamp
-  pub writes-plain : (c t v : ℕ) → Loc m.shape c → m.held < length ws
+  pub writes_plain : (c t v : ℕ) → Loc m.shape c → m.held < length ws
       → found (first_of m (c - 1)) ws c t m.held ≡ Missing → stamp_of (row m i) (c - 1) < t
       → Goes (wr c t v) (accessed m i (Writes c t v)) (set ws m.held (write c t v))
   unfolding accessed with_row first_of row
-  writes-plain c t v o r h b = mem_na_write c t v _ _ o h b (here, else, cells) (moved, unmoved)
+  writes_plain c t v o r h b = mem_na_write c t v _ _ o h b (here, else, cells) (moved, unmoved)
     where
       next : Machine
       next = accessed m i (Writes c t v)
@@ -129,15 +129,15 @@ module _ (m : Machine) (ws : List Write) (i : ℕ) (W : Whole m) (B : Bounds m.s
   joins A a o = own (met m i A) a ∙ join_here (cells_of m) (row m i) (atomic_at m A).view (a - 1) (placed a o).0 (placed a o).1
 
   -- an atomic read
-  pub reads-atomic : (A : Name) → Has m.shape A → Goes (rd_a A (atomic_at m A).value) (read_atomic m i A) ws
+  pub reads_atomic : (A : Name) → Has m.shape A → Goes (rd_a A (atomic_at m A).value) (read_atomic m i A) ws
   unfolding read_atomic with_row first_of
-  reads-atomic A h =
+  reads_atomic A h =
       mem_at_read A _ _ _ h refl
       ((λ a t o. refl), λ B q. same_at m.shape m (read_atomic m i A) ws ws B (atomics_same m (read_atomic m i A) refl refl refl refl B))
       (joins A)
 
-  joins-too : (A : Name) (x : ℕ) → Joined m.shape (stamps_of m i) ((store_of m ws).seen A) (stamps_of (write_atomic m i A x) i)
-  joins-too A x a o = ap (λ (v : View). stamp_of v (a - 1)) (row_written m i A x i) ∙ joins A a o
+  joins_too : (A : Name) (x : ℕ) → Joined m.shape (stamps_of m i) ((store_of m ws).seen A) (stamps_of (write_atomic m i A x) i)
+  joins_too A x a o = ap (λ (v : View). stamp_of v (a - 1)) (row_written m i A x i) ∙ joins A a o
 
   -- what the cell is told is the same join
   tells : (A : Name) (a : ℕ) → Loc m.shape a → stamp_of (told m i A) (a - 1) ≡ max (stamps_of m i a) ((store_of m ws).seen A a)
@@ -165,7 +165,7 @@ module _ (m : Machine) (ws : List Write) (i : ℕ) (W : Whole m) (B : Bounds m.s
       here = atomic_here (read_atomic m i A) A (atomic x (told m i A)) W.flags W.statuses (roomy A h)
 
       seen : SameView m.shape (stamps_of next i) ((store_of next ws).seen A)
-      seen a o = ap (λ (c : Atomic). stamp_of c.view (a - 1)) here ∙ tells A a o ∙ sym (joins-too A x a o)
+      seen a o = ap (λ (c : Atomic). stamp_of c.view (a - 1)) here ∙ tells A a o ∙ sym (joins_too A x a o)
 
       others : (D : Name) → Has m.shape D → D ≢ A → SameAt m.shape (store_of m ws) (store_of next ws) D
       others D q n =
@@ -177,9 +177,9 @@ module _ (m : Machine) (ws : List Write) (i : ℕ) (W : Whole m) (B : Bounds m.s
           atomic_leaves (λ s h f vs ts. found (given_if (ltb (a - 1) s.plain) (get_or f (a - 1) 0)) ws a t h) (read_atomic m i A) A (atomic x (told m i A))
 
   -- an atomic write
-  pub writes-atomic : (A : Name) (x : ℕ) → Has m.shape A → Goes (wr_a A x) (write_atomic m i A x) ws
-  writes-atomic A x h = mem_at_write A x _ _ h (joins-too A x) (replaces A x h)
+  pub writes_atomic : (A : Name) (x : ℕ) → Has m.shape A → Goes (wr_a A x) (write_atomic m i A x) ws
+  writes_atomic A x h = mem_at_write A x _ _ h (joins_too A x) (replaces A x h)
 
   -- a swap that is won
-  pub swaps-atomic : (A : Name) (u x : ℕ) → Has m.shape A → (atomic_at m A).value ≡ u → Goes (rdwr_a A u x) (write_atomic m i A x) ws
-  swaps-atomic A u x h e = mem_at_read_write A u x _ _ h e (joins-too A x) (replaces A x h)
+  pub swaps_atomic : (A : Name) (u x : ℕ) → Has m.shape A → (atomic_at m A).value ≡ u → Goes (rdwr_a A u x) (write_atomic m i A x) ws
+  swaps_atomic A u x h e = mem_at_read_write A u x _ _ h e (joins_too A x) (replaces A x h)

@@ -11,7 +11,7 @@ use Rattle.published.proofs.Follows.{taken_follows}
 use Rattle.published.proofs.OneEvent.{Shared}
 use Rattle.published.specs.Follows.{store_of, stamps_of, after, Performed, StepsAlike}
 use Rattle.published.specs.Memory.{Has}
-use Rattle.rules.proofs.Alike.{first-same, room_unjudged}
+use Rattle.rules.proofs.Alike.{first_same, room_unjudged}
 use Rattle.rules.proofs.Refused.{refused_keeps}
 use Rattle.rules.proofs.Room.{lacks_none}
 use Rattle.rules.specs.Kept.{number_given, Lacks, SameRoom, Alike}
@@ -52,7 +52,7 @@ module _ (m n : Machine) (ws : List Write) (s : Step) (A : Alike m n) (l : s.thr
   here B k = ⊎_elim (λ (h : Has m.shape B). h) (λ (h : Lacks m.shape B). absurd (k h)) (has_or_lacks m.shape B)
 
   shared : Shared m.shape (store_of m ws) (store_of n ws)
-  shared = record { history = λ a t h. rw (first-same m n A (a - 1), A.held); value = λ B h. sym (A.values B (lacks_none _ B h)) }
+  shared = record { history = λ a t h. rw (first_same m n A (a - 1), A.held); value = λ B h. sym (A.values B (lacks_none _ B h)) }
 
   agreed : Agree m.shape (store_of m ws) (store_of n ws) (stamps_of m i) (stamps_of n i)
   unfolding cells_of
@@ -65,13 +65,13 @@ module _ (m n : Machine) (ws : List Write) (s : Step) (A : Alike m n) (l : s.thr
   shares : Same m.shape i o p
   shares = same m n ws s o p P Q A.shape (A.places i l) A.held shared agreed
 
-  alike-after : Alike (after o) (after p)
+  alike_after : Alike (after o) (after p)
   unfolding cells_of
-  alike-after = record {
+  alike_after = record {
     shape = Q.room.shape ∙ A.shape ∙ sym P.room.shape;
     steps = Q.steps ∙ ap (λ (k : ℕ). k + 1) A.steps ∙ sym P.steps;
     held = shares.held;
-    firsts = λ e h. first_kept n (after p) Q.room e ∙ first-same m n A e ∙ sym (first_kept m (after o) P.room e);
+    firsts = λ e h. first_kept n (after p) Q.room e ∙ first_same m n A e ∙ sym (first_kept m (after o) P.room e);
     places = λ j h. places j (rw P.room.shape at h) (ℕ_discrete j i);
     rows = λ j e h k. rows j e (rw P.room.shape at h) (rw P.room.shape at k) (ℕ_discrete j i);
     values = λ B k. sym (shares.store.value B (here B (rw P.room.shape at k)));
@@ -108,7 +108,7 @@ steps_alike m n ws s W X A = go (number_given m ws s) refl
         let Q = taken_follows n ws s X (number ∙ e) in
         let l : s.thread - 1 < m.shape.threads = omega (arith, P.0.thread) in
         let S = shares m n ws s A l (step_of m ws s) (step_of n ws s) P.1 Q.1 in
-        (S.answer, S.writes, alike-after m n ws s A l (step_of m ws s) (step_of n ws s) P.1 Q.1)
+        (S.answer, S.writes, alike_after m n ws s A l (step_of m ws s) (step_of n ws s) P.1 Q.1)
     go (suc r) e =
         let P = refused_keeps m ws s (omega arith) in
         let Q = refused_keeps n ws s (omega (arith, number)) in

@@ -29,8 +29,8 @@ module _ {M : Type 1} {𝓤 : Ura M} (𝓛 : Logic 𝓤) (mem : Memory → SProp
   pub moved-determined : OneResultOf 𝓤 moved.ended (moved.clauses 𝓛 mem run)
   moved-determined κs a g x y e f = say_together 𝓤 (λ p q. determined (is_at _ _ x p) (is_at _ _ y q))
 
-  pub next-line-determined : OneResultOf 𝓤 next_line.ended (next_line.clauses 𝓛 mem run)
-  next-line-determined κs a g x y e f = determined_together 𝓤
+  pub next_line-determined : OneResultOf 𝓤 next_line.ended (next_line.clauses 𝓛 mem run)
+  next_line-determined κs a g x y e f = determined_together 𝓤
 
   pub fault-determined : (κs : _) (a : _) (g : _) (x y : _) (e f : _)
       → ent 𝓤 (conj 𝓤 ((fault.clauses 𝓛 mem run κs a).ensures g x e) ((fault.clauses 𝓛 mem run κs a).ensures g y f)) (fact 𝓤 (x.now ≡ y.now))

@@ -58,8 +58,8 @@ module _ (κ : Lft) where
   L = T'.the_laws α
 
   -- a reader that is owned is at its own machine value
-  pub reader-tells : Tells B (Is B) (λ d. T'.lowered d ∷ [])
-  reader-tells = LL.tells D L
+  pub reader_tells : Tells B (Is B) (λ d. T'.lowered d ∷ [])
+  reader_tells = LL.tells D L
 
   module _ {M : Type 1} {𝓤 : Ura M} (𝓛 : Logic 𝓤) where
     -- a reader is Copy
@@ -90,5 +90,5 @@ module _ (κ : Lft) where
     pub typed : (d : Reader) → Is B d (T'.lowered d ∷ []) → Holds (has_ty (T'.mir (named 0)) (T'.lowered d)) × WT (T'.lowered d)
     typed d p = ((LL.lawful D L 𝓛).typed d _ p).0
 
-    pub typed-local : (d : Reader) → Is B d (T'.lowered d ∷ []) → Holds (has_ty (T'.mir erased) (T'.lowered d)) × WT (T'.lowered d)
-    typed-local d p = ((LL.lawful (T.the_type αᵉ) (T'.the_laws αᵉ) 𝓛).typed d _ p).0
+    pub typed_local : (d : Reader) → Is B d (T'.lowered d ∷ []) → Holds (has_ty (T'.mir erased) (T'.lowered d)) × WT (T'.lowered d)
+    typed_local d p = ((LL.lawful (T.the_type αᵉ) (T'.the_laws αᵉ) 𝓛).typed d _ p).0

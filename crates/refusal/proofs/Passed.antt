@@ -104,8 +104,8 @@ module _ (stand : Bool) (m : Machine) (lent : ℕ) (s : Step) (a : Access) (f : 
     pub room : full a m.held lent ≡ false
 
   -- where the number is none of the early ones, the late tests say it
-  pub past-early : (r : ℕ) → others r early ≡ true → refusal_by stand m lent s a f ≡ r → Passed × (first late ≡ r)
-  past-early r n e =
+  pub past_early : (r : ℕ) → others r early ≡ true → refusal_by stand m lent s a f ≡ r → Passed × (first late ≡ r)
+  past_early r n e =
       let x = beyond early late r n (sym in_order ∙ e) in
       let t14 = x.0 in
       let t6 = t14.1 in
@@ -127,9 +127,9 @@ module _ (stand : Bool) (m : Machine) (lent : ℕ) (s : Step) (a : Access) (f : 
       )
 
   -- and back
-  pub by-late : Passed → refusal_by stand m lent s a f ≡ first late
+  pub by_late : Passed → refusal_by stand m lent s a f ≡ first late
   unfolding refusal_by
-  by-late p =
+  by_late p =
       rw (p.stands, lt-leb 4096 m.steps p.steps, some_among s.thread m.shape.threads p.thread, eq-eqb _ _ p.due, p.names, le-ltb most _ p.range, p.room)
 
   -- the late tests passed too
@@ -139,12 +139,12 @@ module _ (stand : Bool) (m : Machine) (lent : ℕ) (s : Step) (a : Access) (f : 
   pub passed : refusal_by stand m lent s a f ≡ 0 → Passed × Current
   unfolding others ◌and◌
   passed e =
-      let x = past-early 0 refl e in
+      let x = past_early 0 refl e in
       let t = (beyond late [] 0 refl x.1).0 in
       (x.0, (t.0, t.1.0))
 
   pub unrefused : Passed → Current → refusal_by stand m lent s a f ≡ 0
-  unrefused p c = by-late p ∙ none
+  unrefused p c = by_late p ∙ none
     where
       none : first late ≡ 0
       none = rw (c.0, c.1)

@@ -9,7 +9,7 @@ use native.Mathlib.Omega.{arith}
 use borrow.Author.Tests.{leb-true}
 use Rattle.atomic.specs.Atomic.{swapped_of}
 use Rattle.places.specs.Places.{weight_of}
-use Rattle.rules.proofs.Access.{access-fits, accessed-fits, first_fits, value-fits}
+use Rattle.rules.proofs.Access.{access_fits, accessed_fits, first_fits, value_fits}
 use Rattle.rules.proofs.Calls.{flag_in}
 use Rattle.rules.proofs.Refused.{numbered}
 use Rattle.rules.proofs.Standing.{Fits, standing}
@@ -93,10 +93,10 @@ taken_by_lem m ws s t =
     let a = asked m s in
     let fits = standing m ws t.stands in
     let l : i < m.shape.threads = omega (arith, t.thread) in
-    let fit = access-fits n m ws fits s.verb (place m i) (fits.places i l) t.names t.range in
+    let fit = access_fits n m ws fits s.verb (place m i) (fits.places i l) t.names t.range in
     let here : i < (accessed m i a).shape.threads = rw (accessed_shape m i a) l in
     let known : named (accessed m i a).shape s.verb ≡ true = rw (accessed_shape m i a) t.names in
-    acted_in n _ (recorded a m.held ws) (accessed-fits n m ws fits i a l t.room fit) i here s.verb _ known (value-fits n m ws fits a)
+    acted_in n _ (recorded a m.held ws) (accessed_fits n m ws fits i a l t.room fit) i here s.verb _ known (value_fits n m ws fits a)
 
 decided_in : (r : ℕ) (m : Machine) (s : Step) (a : Access) (f : Found) → r ≡ 0 → InRange (taken_by m s a f).answer
     → InRange (decided_by r m s a f).done.answer

@@ -14,7 +14,7 @@ use Rattle.laws.specs.Tests.{◌and◌}
 use Rattle.rules.specs.Step.{step_of}
 use Rattle.number.proofs.Decimal.{length_pow}
 use Rattle.opening.specs.Opening.{fresh, opened_if, opened_of, refused_opening, unmoved, weights_stand}
-use Rattle.printed.proofs.Fits.{answer-short}
+use Rattle.printed.proofs.Fits.{answer_short}
 use Rattle.printed.specs.Printed.{lines_text, printed_text}
 use Rattle.rules.proofs.Begun.{fresh_sound}
 use Rattle.rules.proofs.Sound.{Sound, run}
@@ -63,7 +63,7 @@ few m ws (s ∷ ss) =
     (λ e.
     let p = passed_all m ws s e in
     let digit = length_pow 0 s.thread (omega (arith, p.thread, (bounds m ws p.stands).threads)) in
-    few_more n (4096 - o.done.machine.steps) _ rest (answer-short s.thread 1 digit o.done.answer (taken_in m ws s e))
+    few_more n (4096 - o.done.machine.steps) _ rest (answer_short s.thread 1 digit o.done.answer (taken_in m ws s e))
     (omega (arith, p.steps, taken_counts m ws s e)) (few o.done.machine o.writes ss))
 
 -- the machine counts the steps that are taken

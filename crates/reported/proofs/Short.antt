@@ -14,7 +14,7 @@ use Rattle.number.proofs.Decimal.{length_pow}
 use Rattle.number.specs.Buffer.{Wrote}
 use Rattle.number.specs.declared.Written.TheVariants.{Next}
 use Rattle.opening.specs.Opening.{opened_of}
-use Rattle.printed.proofs.Fits.{answer-short, heading_short, lines_append, put_whole, three_width, two_width}
+use Rattle.printed.proofs.Fits.{answer_short, heading_short, lines_append, put_whole, three_width, two_width}
 use Rattle.printed.proofs.Laws.{spelled_short}
 use Rattle.printed.specs.Printed.{Page, answer_line, field_text, lines_text, printed_text}
 use Rattle.printed.specs.declared.Field.TheVariants.{Counts, Says}
@@ -43,7 +43,7 @@ ranks_short m ws (suc n) k h =
     omega (
       arith,
       length-append (printed_text (answer_line k (content_of m ws k))) (lines_text (rank_lines m ws n (suc k))),
-      answer-short k 4 (length_pow 3 k (omega (arith, g.0))) (content_of m ws k) (content_in m ws k g.1),
+      answer_short k 4 (length_pow 3 k (omega (arith, g.0))) (content_of m ws k) (content_in m ws k g.1),
       ranks_short m ws n (suc k) (λ l. (omega (arith, g.0), g.1)),
     )
 

@@ -87,46 +87,46 @@ module _ (n : ℕ) (m : Machine) (ws : List Write) (fits : Fits n m ws) where
       go (no l) = given_past i m (omega arith)
 
   -- the value that a plain read finds
-  pub value-fits : (a : Access) → value_of (found_by m ws a) ≤ most
+  pub value_fits : (a : Access) → value_of (found_by m ws a) ≤ most
   unfolding found_by
-  value-fits a = found_fits _ _ ws _ _ m.held (first_fits _) fits.records
+  value_fits a = found_fits _ _ ws _ _ m.held (first_fits _) fits.records
 
   -- the access of a `go` with a stamp at a place
-  stamped-fits : (p : Place) (t : ℕ) → NotesFit n p → t ≤ most → AccessFits (cells_of m) (stamped_at m.shape p t)
+  stamped_fits : (p : Place) (t : ℕ) → NotesFit n p → t ≤ most → AccessFits (cells_of m) (stamped_at m.shape p t)
   unfolding slot_cell cells_of
-  stamped-fits Idle t h r = tt
-  stamped-fits (PutStatus k w) t h r = tt
-  stamped-fits (PutSwap k w) t h r = tt
-  stamped-fits (PutWrite k w) t h r = (omega arith, omega (arith, slot_in n m ws fits k), r, h.1)
-  stamped-fits (PutPublish k) t h r = tt
-  stamped-fits (TakeStatus k) t h r = tt
-  stamped-fits (TakeSwap k) t h r = tt
-  stamped-fits (TakeRead k) t h r = tt
-  stamped-fits (TakeFree k w) t h r = tt
+  stamped_fits Idle t h r = tt
+  stamped_fits (PutStatus k w) t h r = tt
+  stamped_fits (PutSwap k w) t h r = tt
+  stamped_fits (PutWrite k w) t h r = (omega arith, omega (arith, slot_in n m ws fits k), r, h.1)
+  stamped_fits (PutPublish k) t h r = tt
+  stamped_fits (TakeStatus k) t h r = tt
+  stamped_fits (TakeSwap k) t h r = tt
+  stamped_fits (TakeRead k) t h r = tt
+  stamped_fits (TakeFree k w) t h r = tt
 
   -- the access that a verb makes at a place
-  pub access-fits : (x : Verb) (p : Place) → NotesFit n p → named m.shape x ≡ true → greatest x ≤ most
+  pub access_fits : (x : Verb) (p : Place) → NotesFit n p → named m.shape x ≡ true → greatest x ≤ most
       → AccessFits (cells_of m) (access_of m.shape x p)
   unfolding cells_of
-  access-fits (Get c t) p h e r = tt
-  access-fits (Set c v t) p h e r =
+  access_fits (Get c t) p h e r = tt
+  access_fits (Set c v t) p h e r =
       let a = among_some c m.shape.plain e in
       (a.0, omega (arith, a.1), omega arith, omega arith)
-  access-fits (Load f) p h e r = tt
-  access-fits (Store f v) p h e r = tt
-  access-fits (Swap f u v) p h e r = tt
-  access-fits (Put w) p h e r = tt
-  access-fits Take p h e r = tt
-  access-fits Go p h e r = tt
-  access-fits (GoAt t) p h e r = stamped-fits p t h r
+  access_fits (Load f) p h e r = tt
+  access_fits (Store f v) p h e r = tt
+  access_fits (Swap f u v) p h e r = tt
+  access_fits (Put w) p h e r = tt
+  access_fits Take p h e r = tt
+  access_fits Go p h e r = tt
+  access_fits (GoAt t) p h e r = stamped_fits p t h r
 
   -- the state and the list after an access
-  pub accessed-fits : (i : ℕ) (a : Access) → i < m.shape.threads → full a m.held (length ws) ≡ false → AccessFits (cells_of m) a
+  pub accessed_fits : (i : ℕ) (a : Access) → i < m.shape.threads → full a m.held (length ws) ≡ false → AccessFits (cells_of m) a
       → Fits n (accessed m i a) (recorded a m.held ws)
   unfolding accessed recorded with_row cells_of
-  accessed-fits i NoAccess l e h = fits
-  accessed-fits i (Reads c t) l e h = fits
-  accessed-fits i (Writes c t v) l e h =
+  accessed_fits i NoAccess l e h = fits
+  accessed_fits i (Reads c t) l e h = fits
+  accessed_fits i (Writes c t v) l e h =
       let free = neither _ _ e in
       let seen = with_stamp (row m i) (c - 1) t in
       held_fits n (with_row m i seen) ws (write c t v) (row_fits n m ws i seen fits (stamped_stands _ (row m i) _ _ (fits.rows i l) h.2))

@@ -69,14 +69,14 @@ module _ (m n : Machine) (A : Alike m n) where
   unfolding cells_of
   cells_same = rw A.shape
 
-  thread-same : (i : ℕ) → i < m.shape.threads → thread_stands n i ≡ thread_stands m i
+  thread_same : (i : ℕ) → i < m.shape.threads → thread_stands n i ≡ thread_stands m i
   unfolding thread_stands
-  thread-same i l = and_same (ap2 place_stands A.steps (A.places i l)) (view_same _ _ (row n i) (row m i) cells_same (λ e h. A.rows i e l h))
+  thread_same i l = and_same (ap2 place_stands A.steps (A.places i l)) (view_same _ _ (row n i) (row m i) cells_same (λ e h. A.rows i e l h))
 
-  atomic-same : (a : Name) (j high : ℕ) → j ≡ high → Known m.shape a
+  atomic_same : (a : Name) (j high : ℕ) → j ≡ high → Known m.shape a
       → atomic_stands (cells_of n) j (atomic_at n a) ≡ atomic_stands (cells_of m) high (atomic_at m a)
   unfolding atomic_stands
-  atomic-same a j high e k =
+  atomic_same a j high e k =
       let has = lacks_none m.shape a k in
       and_same (ap2 leb (A.values a has) e) (view_same _ _ (atomic_at n a).view (atomic_at m a).view cells_same (λ e h. A.seen a e has h))
 
@@ -87,29 +87,29 @@ module _ (m n : Machine) (A : Alike m n) where
   parts_same : parts_stand n ≡ parts_stand m
   unfolding parts_stand threads_stand firsts_stand cells_stand atomics_stand atomic_at
   parts_same =
-      and_same (all_same _ _ _ _ (ap (λ (s : Shape). s.threads) A.shape) thread-same)
+      and_same (all_same _ _ _ _ (ap (λ (s : Shape). s.threads) A.shape) thread_same)
       (and_same (all_same _ _ _ _ (ap (λ (s : Shape). s.plain) A.shape) (λ e l. rw (A.firsts e l)))
-      (and_same (all_same _ _ _ _ (ap (λ (s : Shape). s.flags) A.shape) (λ i l. atomic-same (Flag i) most most refl l))
-      (and_same (atomic-same Head _ _ A.steps tt)
-      (and_same (atomic-same Tail _ _ A.steps tt)
-      (all_same _ _ _ _ (ap (λ (s : Shape). s.slots) A.shape) (λ i l. atomic-same (Status i) _ _ high_same l))))))
+      (and_same (all_same _ _ _ _ (ap (λ (s : Shape). s.flags) A.shape) (λ i l. atomic_same (Flag i) most most refl l))
+      (and_same (atomic_same Head _ _ A.steps tt)
+      (and_same (atomic_same Tail _ _ A.steps tt)
+      (all_same _ _ _ _ (ap (λ (s : Shape). s.slots) A.shape) (λ i l. atomic_same (Status i) _ _ high_same l))))))
 
-  sizes-same : (lent : ℕ) → sizes_stand n lent ≡ sizes_stand m lent
+  sizes_same : (lent : ℕ) → sizes_stand n lent ≡ sizes_stand m lent
   unfolding sizes_stand
-  sizes-same lent = rw (A.shape, A.steps, A.held)
+  sizes_same lent = rw (A.shape, A.steps, A.held)
 
   stands_same : (ws : List Write) → stands n ws ≡ stands m ws
   unfolding stands
   stands_same ws =
-      and_same (sizes-same (length ws)) (and_same parts_same (records ∙ ap (records_stand (cells_of m) ws) A.held))
+      and_same (sizes_same (length ws)) (and_same parts_same (records ∙ ap (records_stand (cells_of m) ws) A.held))
     where
       records : records_stand (cells_of n) ws n.held ≡ records_stand (cells_of m) ws n.held
       records = ap (λ (k : ℕ). records_stand k ws n.held) cells_same
 
   -- first values, those of slots too
-  pub first-same : (e : ℕ) → first_of n e ≡ first_of m e
+  pub first_same : (e : ℕ) → first_of n e ≡ first_of m e
   unfolding first_of
-  first-same e = go (dec_lt e m.shape.plain)
+  first_same e = go (dec_lt e m.shape.plain)
     where
       past : (x : Machine) → x.shape.plain ≤ e → first_of x e ≡ 0
       past x h = rw (le-ltb e x.shape.plain h)
@@ -121,13 +121,13 @@ module _ (m n : Machine) (A : Alike m n) where
   -- what an access finds
   found_same : (ws : List Write) (a : Access) → found_by n ws a ≡ found_by m ws a
   unfolding found_by
-  found_same ws a = rw (first-same (cell_asked a - 1), A.held)
+  found_same ws a = rw (first_same (cell_asked a - 1), A.held)
 
   -- an access of one of the machine's cells, by a thread that there is
-  outdated-same : (i : ℕ) (a : Access) → i < m.shape.threads → Ranged (cells_of m) a → outdated a (row n i) ≡ outdated a (row m i)
-  outdated-same i NoAccess l r = refl
-  outdated-same i (Reads c t) l r = rw (A.rows i (c - 1) l (omega arith))
-  outdated-same i (Writes c t v) l r = rw (A.rows i (c - 1) l (omega arith))
+  outdated_same : (i : ℕ) (a : Access) → i < m.shape.threads → Ranged (cells_of m) a → outdated a (row n i) ≡ outdated a (row m i)
+  outdated_same i NoAccess l r = refl
+  outdated_same i (Reads c t) l r = rw (A.rows i (c - 1) l (omega arith))
+  outdated_same i (Writes c t v) l r = rw (A.rows i (c - 1) l (omega arith))
 
   number_same : (ws : List Write) (s : Step) → refusal_of n ws s ≡ refusal_of m ws s
   unfolding refusal_of refusal_by
@@ -145,7 +145,7 @@ module _ (m n : Machine) (A : Alike m n) where
       (refuse_same _ _ 11 _ _ (ap2 (λ x h. full x h (length ws)) a A.held)
       (λ t11. refuse_same _ _ 12 _ _
       (ap (λ x. outdated x (row n (s.thread - 1))) a
-      ∙ outdated-same (s.thread - 1) (asked m s) l (ranged m (bounds m ws (not-false _ t14)) s.verb (place m (s.thread - 1)) (not-false _ t9)))
+      ∙ outdated_same (s.thread - 1) (asked m s) l (ranged m (bounds m ws (not-false _ t14)) s.verb (place m (s.thread - 1)) (not-false _ t9)))
       (λ t12. ap (λ b. refuse b 13 0) (ap2 amiss a (ap (found_by n ws) a ∙ found_same ws (asked m s)))))))))))
 
 pub room_unjudged : RoomUnjudged

@@ -14,7 +14,7 @@ use Rattle.rules.proofs.Listed.{Marked}
 use Rattle.rules.proofs.Moves.{shown}
 use Rattle.rules.proofs.Ranks.{slot_in}
 use Rattle.rules.proofs.Refused.{numbered}
-use Rattle.rules.proofs.Remembered.{picture, knew-at, one_stamp}
+use Rattle.rules.proofs.Remembered.{picture, knew_at, one_stamp}
 use Rattle.rules.proofs.Ring.{Stage, aside, saw_free, filling, filled, saw_full, emptying, emptied, empties}
 use Rattle.rules.proofs.Ringed.{stage, stages}
 use Rattle.rules.proofs.Sound.{Sound}
@@ -115,7 +115,7 @@ module _ (p : Point) (S : Sound p) where
         let low = ltb-false _ _ (subst (λ (y : Access). outdated y (row m (i - 1)) ≡ false) (reads k a) q.1.0) in
         let fits = subst (λ (y : Access). amiss y (found_by m p.writes y) ≡ false) (reads k a) q.1.1 in
         let new = (one_stamp m p.writes n (i - 1) S.whole B S.ring S.memory r a _ (here k) low (shown _ fits)).0 in
-        omega (arith, rw cell at low, new, (knew-at m p.writes n (i - 1) S.whole B S.ring S.memory (TakeRead r) (here k)).0.0)
+        omega (arith, rw cell at low, new, (knew_at m p.writes n (i - 1) S.whole B S.ring S.memory (TakeRead r) (here k)).0.0)
 
     -- and the thread's own is
     pub own : n.calls (i - 1) ≡ taking 3 r → 0 < i → m.steps < 4096 → number_given m p.writes (go_at i mine) ≡ 0

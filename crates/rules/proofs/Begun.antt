@@ -74,9 +74,9 @@ module _ (t c : ℕ) (plain flags : List ℕ) (B : Within t c (length plain) (le
   none : (i : ℕ) → stages m i ≡ aside
   none i = ap stage (idle i)
 
-  fresh-ring : Ringed c m
+  fresh_ring : Ringed c m
   unfolding fresh unmoved
-  fresh-ring =
+  fresh_ring =
       record {
         some = B.some_slot;
         low = omega arith;
@@ -89,13 +89,13 @@ module _ (t c : ℕ) (plain flags : List ℕ) (B : Within t c (length plain) (le
         take_alone = λ i j k o _. absurd (rw (none i) at o);
       }
 
-  fresh-memory : (ws : List Write) → Remembered c (length plain) (first_of m) m ws (seen [])
+  fresh_memory : (ws : List Write) → Remembered c (length plain) (first_of m) m ws (seen [])
   unfolding fresh unmoved newest seen ins
-  fresh-memory ws = record { free = λ j a b. omega arith; full = λ j a b d. absurd (omega arith); knows = λ i. rw (none i) tt; untold = λ j a. refl }
+  fresh_memory ws = record { free = λ j a b. omega arith; full = λ j a b d. absurd (omega arith); knows = λ i. rw (none i) tt; untold = λ j a. refl }
 
-  fresh-list : ListedAt c m (seen [])
+  fresh_list : ListedAt c m (seen [])
   unfolding fresh unmoved seen plain ins outs
-  fresh-list =
+  fresh_list =
       record {
         line = record { inside = []; handed = [] };
         is = refl;
@@ -110,9 +110,9 @@ module _ (t c : ℕ) (plain flags : List ℕ) (B : Within t c (length plain) (le
   unfolding stamp_of found
   zeros ws k j l = rw (replicated {A = ℕ} 32 0 j)
 
-  fresh-recall : (ws : List Write) → Recalled (cells_of m) (first_of m) m ws
+  fresh_recall : (ws : List Write) → Recalled (cells_of m) (first_of m) m ws
   unfolding fresh unmoved
-  fresh-recall ws =
+  fresh_recall ws =
       record {
         rows = λ i. rw (blank i) (zeros ws _);
         cells = λ a. rw (bare a) (zeros ws _);
@@ -146,10 +146,10 @@ fresh_sound t c plain flags ws e =
         record {
           whole = subst Whole q (fresh_whole t c plain flags);
           stand = subst (λ (m : Machine). stands m ws ≡ true) q (fresh_stands t c plain flags ws (ap number_of e));
-          ring = fresh-ring t c plain flags B;
-          memory = fresh-memory t c plain flags B ws;
-          list = fresh-list t c plain flags B;
-          recall = fresh-recall t c plain flags B ws;
+          ring = fresh_ring t c plain flags B;
+          memory = fresh_memory t c plain flags B ws;
+          list = fresh_list t c plain flags B;
+          recall = fresh_recall t c plain flags B ws;
           right = tt;
           spare = λ i _. idle t c plain flags B i;
         }

@@ -5,7 +5,7 @@ use mathlib.Core.List.{List}
 use Prim.Native.Nat.{ℕ, ◌-◌, ◌<◌, ◌≤◌}
 use native.Mathlib.Omega.{arith}
 use Rattle.places.specs.Places.{rank_of, weight_of}
-use Rattle.rules.proofs.Memory.{read_fits, write-fits, swap-fits}
+use Rattle.rules.proofs.Memory.{read_fits, write_fits, swap_fits}
 use Rattle.rules.proofs.Parts.{Known, highest, place_fits}
 use Rattle.rules.proofs.Standing.{NotesFit, high_status, Fits, slot_in}
 use Rattle.refusal.proofs.Passed.{among_some}
@@ -42,44 +42,44 @@ flag_in m f e = omega (arith, among_some f m.shape.flags e)
 
 module _ (n : ℕ) (m : Machine) (ws : List Write) (fits : Fits n m ws) (i : ℕ) (l : i < m.shape.threads) where
   -- second: a status is read
-  looks-fits : (k due : ℕ) (p : Place) (lost : Answer) → NotesFit n p → Fits n (looks m i k due p lost).machine ws
+  looks_fits : (k due : ℕ) (p : Place) (lost : Answer) → NotesFit n p → Fits n (looks m i k due p lost).machine ws
   unfolding looks
-  looks-fits k due p lost h = goes_on_fits n _ _ ws i p lost (read_fits n m ws fits i l (status_name m k) (slot_in n m ws fits k)) h
+  looks_fits k due p lost h = goes_on_fits n _ _ ws i p lost (read_fits n m ws fits i l (status_name m k) (slot_in n m ws fits k)) h
 
   -- third: head or tail is swapped to the next rank
-  swaps-fits : (a : Name) (k : ℕ) (p : Place) (lost : Answer) → Known m.shape a → next_rank k ≤ highest m.shape n a → NotesFit n p
+  swaps_fits : (a : Name) (k : ℕ) (p : Place) (lost : Answer) → Known m.shape a → next_rank k ≤ highest m.shape n a → NotesFit n p
       → Fits n (swaps m i a k p lost).machine ws
   unfolding swaps
-  swaps-fits a k p lost h r q = goes_on_fits n _ _ ws i p lost (swap-fits n m ws fits i l a k (next_rank k) h r) q
+  swaps_fits a k p lost h r q = goes_on_fits n _ _ ws i p lost (swap_fits n m ws fits i l a k (next_rank k) h r) q
 
   -- fifth: a status is written
-  closes-fits : (k status : ℕ) (a : Answer) → status ≤ high_status m.shape n → Fits n (closes m i k status a).machine ws
+  closes_fits : (k status : ℕ) (a : Answer) → status ≤ high_status m.shape n → Fits n (closes m i k status a).machine ws
   unfolding closes
-  closes-fits k status a h = idle_fits n _ ws i (write-fits n m ws fits i l (status_name m k) status (slot_in n m ws fits k) h)
+  closes_fits k status a h = idle_fits n _ ws i (write_fits n m ws fits i l (status_name m k) status (slot_in n m ws fits k) h)
 
   -- the table of the two calls: a rank that was noted is at most the steps taken before this one
-  resumed-fits : (p : Place) (v : ℕ) → rank_of p < n → weight_of p ≤ most → v ≤ most → Fits n (resumed m i p v).machine ws
+  resumed_fits : (p : Place) (v : ℕ) → rank_of p < n → weight_of p ≤ most → v ≤ most → Fits n (resumed m i p v).machine ws
   unfolding resumed next_rank free_status full_status lapped
-  resumed-fits Idle v r w h = idle_fits n m ws i fits
-  resumed-fits (PutStatus k x) v r w h = looks-fits k _ (PutSwap k x) No (omega arith, w)
-  resumed-fits (PutSwap k x) v r w h = swaps-fits Head k (PutWrite k x) No tt (omega arith) (omega arith, w)
-  resumed-fits (PutWrite k x) v r w h = place_fits n m ws i (PutPublish k) fits (omega arith, omega arith)
-  resumed-fits (PutPublish k) v r w h = closes-fits k _ Yes (omega arith)
-  resumed-fits (TakeStatus k) v r w h = looks-fits k _ (TakeSwap k) None (omega arith, omega arith)
-  resumed-fits (TakeSwap k) v r w h = swaps-fits Tail k (TakeRead k) None tt (omega arith) (omega arith, omega arith)
-  resumed-fits (TakeRead k) v r w h = place_fits n m ws i (TakeFree k v) fits (omega arith, h)
-  resumed-fits (TakeFree k x) v r w h = closes-fits k _ (Got x) (omega arith)
+  resumed_fits Idle v r w h = idle_fits n m ws i fits
+  resumed_fits (PutStatus k x) v r w h = looks_fits k _ (PutSwap k x) No (omega arith, w)
+  resumed_fits (PutSwap k x) v r w h = swaps_fits Head k (PutWrite k x) No tt (omega arith) (omega arith, w)
+  resumed_fits (PutWrite k x) v r w h = place_fits n m ws i (PutPublish k) fits (omega arith, omega arith)
+  resumed_fits (PutPublish k) v r w h = closes_fits k _ Yes (omega arith)
+  resumed_fits (TakeStatus k) v r w h = looks_fits k _ (TakeSwap k) None (omega arith, omega arith)
+  resumed_fits (TakeSwap k) v r w h = swaps_fits Tail k (TakeRead k) None tt (omega arith) (omega arith, omega arith)
+  resumed_fits (TakeRead k) v r w h = place_fits n m ws i (TakeFree k v) fits (omega arith, h)
+  resumed_fits (TakeFree k x) v r w h = closes_fits k _ (Got x) (omega arith)
 
   -- what each verb does
-  pub acted-fits : (x : Verb) (v : ℕ) → named m.shape x ≡ true → greatest x ≤ most → rank_of (place m i) < n → v ≤ most
+  pub acted_fits : (x : Verb) (v : ℕ) → named m.shape x ≡ true → greatest x ≤ most → rank_of (place m i) < n → v ≤ most
       → Fits n (acted m i x v).machine ws
   unfolding acted
-  acted-fits (Get c t) v e g r h = idle_fits n m ws i fits
-  acted-fits (Set c x t) v e g r h = idle_fits n m ws i fits
-  acted-fits (Load f) v e g r h = idle_fits n _ ws i (read_fits n m ws fits i l (Flag (f - 1)) (flag_in m f e))
-  acted-fits (Store f x) v e g r h = idle_fits n _ ws i (write-fits n m ws fits i l (Flag (f - 1)) x (flag_in m f e) g)
-  acted-fits (Swap f old new) v e g r h = idle_fits n _ ws i (swap-fits n m ws fits i l (Flag (f - 1)) old new (flag_in m f e) (omega arith))
-  acted-fits (Put w) v e g r h = place_fits n _ ws i (PutStatus m.head.value w) (read_fits n m ws fits i l Head tt) (fits.head.0, g)
-  acted-fits Take v e g r h = place_fits n _ ws i (TakeStatus m.tail.value) (read_fits n m ws fits i l Tail tt) (fits.tail.0, omega arith)
-  acted-fits Go v e g r h = resumed-fits (place m i) v r (fits.places i l).1 h
-  acted-fits (GoAt t) v e g r h = resumed-fits (place m i) v r (fits.places i l).1 h
+  acted_fits (Get c t) v e g r h = idle_fits n m ws i fits
+  acted_fits (Set c x t) v e g r h = idle_fits n m ws i fits
+  acted_fits (Load f) v e g r h = idle_fits n _ ws i (read_fits n m ws fits i l (Flag (f - 1)) (flag_in m f e))
+  acted_fits (Store f x) v e g r h = idle_fits n _ ws i (write_fits n m ws fits i l (Flag (f - 1)) x (flag_in m f e) g)
+  acted_fits (Swap f old new) v e g r h = idle_fits n _ ws i (swap_fits n m ws fits i l (Flag (f - 1)) old new (flag_in m f e) (omega arith))
+  acted_fits (Put w) v e g r h = place_fits n _ ws i (PutStatus m.head.value w) (read_fits n m ws fits i l Head tt) (fits.head.0, g)
+  acted_fits Take v e g r h = place_fits n _ ws i (TakeStatus m.tail.value) (read_fits n m ws fits i l Tail tt) (fits.tail.0, omega arith)
+  acted_fits Go v e g r h = resumed_fits (place m i) v r (fits.places i l).1 h
+  acted_fits (GoAt t) v e g r h = resumed_fits (place m i) v r (fits.places i l).1 h

@@ -66,9 +66,9 @@ unfolding atomic_at
 all_calm m n h = record { head = ap (λ (x : Atomic). x.value) (h Head); tail = ap (λ (x : Atomic). x.value) (h Tail); statuses = λ z. h (Status z) }
 
 module _ (m : Machine) (i x : ℕ) (q : Place) (n : Machine) where
-  pub flag-calm : (f : ℕ) → Storing m i (Flag f) x q n → Calm m n
+  pub flag_calm : (f : ℕ) → Storing m i (Flag f) x q n → Calm m n
   unfolding atomic_at
-  flag-calm f s =
+  flag_calm f s =
       record {
         head = ap (λ (y : Atomic). y.value) (s.else Head (other Head (Flag f) (λ e. omega arith)));
         tail = ap (λ (y : Atomic). y.value) (s.else Tail (other Tail (Flag f) (λ e. omega arith)));
@@ -76,26 +76,26 @@ module _ (m : Machine) (i x : ℕ) (q : Place) (n : Machine) where
       }
 
   -- what a store in head, in tail or in a status leaves
-  pub head-stored : Storing m i Head x q n → (n.head.value ≡ x) × (n.tail.value ≡ m.tail.value) × ((z : ℕ) → status_at n z ≡ status_at m z)
+  pub head_stored : Storing m i Head x q n → (n.head.value ≡ x) × (n.tail.value ≡ m.tail.value) × ((z : ℕ) → status_at n z ≡ status_at m z)
   unfolding atomic_at
-  head-stored s = (
+  head_stored s = (
     ap (λ (y : Atomic). y.value) s.here,
     ap (λ (y : Atomic). y.value) (s.else Tail (other Tail Head (λ e. omega arith))),
     λ z. s.else (Status z) (other (Status z) Head (λ e. omega arith)),
   )
 
-  pub tail-stored : Storing m i Tail x q n → (n.head.value ≡ m.head.value) × (n.tail.value ≡ x) × ((z : ℕ) → status_at n z ≡ status_at m z)
+  pub tail_stored : Storing m i Tail x q n → (n.head.value ≡ m.head.value) × (n.tail.value ≡ x) × ((z : ℕ) → status_at n z ≡ status_at m z)
   unfolding atomic_at
-  tail-stored s = (
+  tail_stored s = (
     ap (λ (y : Atomic). y.value) (s.else Head (other Head Tail (λ e. omega arith))),
     ap (λ (y : Atomic). y.value) s.here,
     λ z. s.else (Status z) (other (Status z) Tail (λ e. omega arith)),
   )
 
-  pub status-stored : (k : ℕ) → Storing m i (Status k) x q n
+  pub status_stored : (k : ℕ) → Storing m i (Status k) x q n
       → (n.head.value ≡ m.head.value) × (n.tail.value ≡ m.tail.value) × Updated (status_at m) k (atomic x (told m i (Status k))) (status_at n)
   unfolding atomic_at
-  status-stored k s = (
+  status_stored k s = (
     ap (λ (y : Atomic). y.value) (s.else Head (other Head (Status k) (λ e. omega arith))),
     ap (λ (y : Atomic). y.value) (s.else Tail (other Tail (Status k) (λ e. omega arith))),
     record { here = s.here; else = λ z d. s.else (Status z) (λ e. d (ap number e)) },

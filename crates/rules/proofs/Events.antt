@@ -83,10 +83,10 @@ module _ (m : Machine) (i : ℕ) (W : Whole m) (l : i < 8) where
       }
 
   module _ (q : Place) (k : ℕ) where
-    pub is-reading : (ws : List Write) (c t v : ℕ) → stamp_of (row m i) (c - 1) ≤ t → found (first_of m (c - 1)) ws c t m.held ≡ Present v
+    pub is_reading : (ws : List Write) (c t v : ℕ) → stamp_of (row m i) (c - 1) ≤ t → found (first_of m (c - 1)) ws c t m.held ≡ Present v
         → Reading m ws i c t v q (with_steps (with_place m i q) k)
     unfolding with_place row
-    is-reading ws c t v h e =
+    is_reading ws c t v h e =
         let n = with_steps (with_place m i q) k in
         record {
           goes = record { places = placed n q refl; rows = record { here = refl; else = λ j _. refl } };
@@ -96,11 +96,11 @@ module _ (m : Machine) (i : ℕ) (W : Whole m) (l : i < 8) where
           shown = e;
         }
 
-    pub is-writing : (ws : List Write) (c t v : ℕ) → m.held < length ws → stamp_of (row m i) (c - 1) < t
+    pub is_writing : (ws : List Write) (c t v : ℕ) → m.held < length ws → stamp_of (row m i) (c - 1) < t
         → found (first_of m (c - 1)) ws c t m.held ≡ Missing
         → Writing m ws i c t v q (with_steps (with_place (accessed m i (Writes c t v)) i q) k) (recorded (Writes c t v) m.held ws)
     unfolding with_place accessed with_row recorded
-    is-writing ws c t v r h e =
+    is_writing ws c t v r h e =
         let n = with_steps (with_place (accessed m i (Writes c t v)) i q) k in
         record {
           goes = record { places = placed n q refl; rows = rowed n _ refl };
@@ -112,15 +112,15 @@ module _ (m : Machine) (i : ℕ) (W : Whole m) (l : i < 8) where
           fresh = e;
         }
 
-    pub is-looking : (a : Name) → Looking m i a q (with_steps (with_place (read_atomic m i a) i q) k)
+    pub is_looking : (a : Name) → Looking m i a q (with_steps (with_place (read_atomic m i a) i q) k)
     unfolding with_place read_atomic with_row
-    is-looking a =
+    is_looking a =
         let n = with_steps (with_place (read_atomic m i a) i q) k in
         record { goes = record { places = placed n q refl; rows = rowed n _ refl }; cells = atomics_same m n refl refl refl refl; held = refl }
 
-    pub is-storing : (a : Name) (x : ℕ) → Room a → Storing m i a x q (with_steps (with_place (write_atomic m i a x) i q) k)
+    pub is_storing : (a : Name) (x : ℕ) → Room a → Storing m i a x q (with_steps (with_place (write_atomic m i a x) i q) k)
     unfolding with_place write_atomic with_row
-    is-storing a x h =
+    is_storing a x h =
         let w = with_row m i (met m i a) in
         let y = atomic x (told m i a) in
         let u = with_atomic w a y in

@@ -25,7 +25,7 @@ module _ (c n : ℕ) (p : Picture) (sg : ℕ → Stage) (vw lf : ℕ → View) (
   put_ended h e ut ul over told un = record {
     free = λ j a b. at_each ul (Newest c n p.top j) (slot_of c j)
         (λ d. absurd (omega (arith, a, ap st d, ut.here))) (λ d. M.free j (sym (ut.else (slot_of c j) d) ∙ a) b);
-    full = λ j a b d. full-on j a b d (ℕ_discrete (slot_of c j) (slot_of c h));
+    full = λ j a b d. full_on j a b d (ℕ_discrete (slot_of c j) (slot_of c h));
     knows = λ j. at_both uv us (Knows c n q) j (λ _. tt) (λ m. there j m (vw j) (sg j) refl (M.knows j));
     untold = λ j a. un.else j (omega (arith, mine)) ∙ M.untold j a;
   }
@@ -45,16 +45,16 @@ module _ (c n : ℕ) (p : Picture) (sg : ℕ → Stage) (vw lf : ℕ → View) (
       retold : (k : ℕ) (y : View) → k ≢ h → Brings c n p k y → Brings c n q k y
       retold k y m f = (f.0, subst (λ (o : Option View). CoversNoted (n + c) o y) (sym (un.else k m)) f.1)
 
-      full-on : (j : ℕ) → p.tail ≤ j → j < p.head → st (slot_of c j) ≡ full_status j → Dec (slot_of c j ≡ slot_of c h)
+      full_on : (j : ℕ) → p.tail ≤ j → j < p.head → st (slot_of c j) ≡ full_status j → Dec (slot_of c j ≡ slot_of c h)
           → Brings c n q j (lf' (slot_of c j)) × (p.put j ≡ some (p.val (slot_of c j)))
-      full-on j a b d (yes g) =
+      full_on j a b d (yes g) =
           let k : h ≡ j = omega (arith, d, ap st g, ut.here) in
           subst (λ (y : ℕ). Brings c n q y (lf' (slot_of c y)) × (p.put y ≡ some (p.val (slot_of c y)))) k (
             subst (Brings c n q h) (sym ul.here)
                 (newest_up c n p.top h _ z I.some up knows.0, subst (λ (o : Option View). CoversNoted (n + c) o z) (sym un.here) over),
             knows.1,
           )
-      full-on j a b d (no m) =
+      full_on j a b d (no m) =
           let f = M.full j a b (sym (ut.else (slot_of c j) m) ∙ d) in
           (subst (Brings c n q j) (sym (ul.else (slot_of c j) m)) (retold j _ (apart j m) f.0), f.1)
 
@@ -90,7 +90,7 @@ module _ (c n : ℕ) (p : Picture) (sg : ℕ → Stage) (vw lf : ℕ → View) (
     free = λ j a b. at_each ul (Newest c n p.top j) (slot_of c j)
         (λ d. subst (λ (v : ℕ). p.top v ≤ stamp_of z (n + v)) (sym d) (newest_up c n p.top t _ z I.some up knows.0.0))
         (λ d. M.free j (sym (ut.else (slot_of c j) d) ∙ a) b);
-    full = λ j a b d. full-on j a b d (ℕ_discrete (slot_of c j) (slot_of c t));
+    full = λ j a b d. full_on j a b d (ℕ_discrete (slot_of c j) (slot_of c t));
     knows = λ j. at_both uv us (Knows c n q) j (λ _. tt) (λ _. there j (vw j) (sg j) refl (M.knows j));
     untold = M.untold;
   }
@@ -104,10 +104,10 @@ module _ (c n : ℕ) (p : Picture) (sg : ℕ → Stage) (vw lf : ℕ → View) (
       knows : Brings c n p t (vw i) × (p.put t ≡ some w)
       knows = knew c n p sg vw lf M i aside x sg' us vw' uv e
 
-      full-on : (j : ℕ) → p.tail ≤ j → j < p.head → st (slot_of c j) ≡ full_status j → Dec (slot_of c j ≡ slot_of c t)
+      full_on : (j : ℕ) → p.tail ≤ j → j < p.head → st (slot_of c j) ≡ full_status j → Dec (slot_of c j ≡ slot_of c t)
           → Brings c n q j (lf' (slot_of c j)) × (p.put j ≡ some (p.val (slot_of c j)))
-      full-on j a b d (yes g) = absurd (omega (arith, d, ap st g, ut.here))
-      full-on j a b d (no m) =
+      full_on j a b d (yes g) = absurd (omega (arith, d, ap st g, ut.here))
+      full_on j a b d (no m) =
           let f = M.full j a b (sym (ut.else (slot_of c j) m) ∙ d) in
           (subst (Brings c n q j) (sym (ul.else (slot_of c j) m)) f.0, f.1)
 
@@ -131,9 +131,9 @@ module _ (c n : ℕ) (p : Picture) (sg : ℕ → Stage) (vw lf : ℕ → View) (
 
 -- Where thread i fills the slot of a rank, no other rank of it matters.
 module _ (c : ℕ) (p : Picture) (sg : ℕ → Stage) (I : Safe c p sg) (i k : ℕ) where
-  pub fill-clear : fills (sg i) k → Clear c p sg i (slot_of c k)
+  pub fill_clear : fills (sg i) k → Clear c p sg i (slot_of c k)
   unfolding free_status full_status
-  fill-clear o =
+  fill_clear o =
       let mine = I.putting i k o in
       record {
         free = λ j a b e. omega (arith, mine, ap p.st e);

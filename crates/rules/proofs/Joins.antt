@@ -13,22 +13,22 @@ use Rattle.view.specs.View.{stamp_of}
 
 module _ (m : Machine) (i : ℕ) (a : Name) (W : Whole m) (B : Bounds m.shape) where
   -- the larger stamp, cell by cell
-  pub met-here : (j : ℕ) → j < cells_of m → stamp_of (met m i a) j ≡ max (stamp_of (row m i) j) (stamp_of (atomic_at m a).view j)
+  pub met_here : (j : ℕ) → j < cells_of m → stamp_of (met m i a) j ≡ max (stamp_of (row m i) j) (stamp_of (atomic_at m a).view j)
   unfolding met cells_of
-  met-here j l = join_here (cells_of m) (row m i) (atomic_at m a).view j l (omega (arith, W.rows i, B.plain, B.slots))
+  met_here j l = join_here (cells_of m) (row m i) (atomic_at m a).view j l (omega (arith, W.rows i, B.plain, B.slots))
 
   pub told_here : (j : ℕ) → j < cells_of m → stamp_of (told m i a) j ≡ max (stamp_of (atomic_at m a).view j) (stamp_of (row m i) j)
   unfolding told cells_of
   told_here j l = join_here (cells_of m) (atomic_at m a).view (row m i) j l (omega (arith, W.seen a, B.plain, B.slots))
 
-  pub met-own : Covers (cells_of m) (met m i a) (row m i)
-  met-own j l = omega (arith, met-here j l)
+  pub met_own : Covers (cells_of m) (met m i a) (row m i)
+  met_own j l = omega (arith, met_here j l)
 
-  pub met-cell : Covers (cells_of m) (met m i a) (atomic_at m a).view
-  met-cell j l = omega (arith, met-here j l)
+  pub met_cell : Covers (cells_of m) (met m i a) (atomic_at m a).view
+  met_cell j l = omega (arith, met_here j l)
 
-  pub told-own : Covers (cells_of m) (told m i a) (row m i)
-  told-own j l = omega (arith, told_here j l)
+  pub told_own : Covers (cells_of m) (told m i a) (row m i)
+  told_own j l = omega (arith, told_here j l)
 
-  pub told-met : Covers (cells_of m) (told m i a) (met m i a)
-  told-met j l = omega (arith, told_here j l, met-here j l)
+  pub told_met : Covers (cells_of m) (told m i a) (met m i a)
+  told_met j l = omega (arith, told_here j l, met_here j l)

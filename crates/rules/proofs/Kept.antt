@@ -6,8 +6,8 @@ use Prim.Native.Nat.{ℕ, zero, suc, ◌+◌, ◌-◌, ◌<◌}
 use native.Mathlib.Omega.{arith}
 use lib.ListN.{length}
 use Rattle.places.specs.Places.{rank_of}
-use Rattle.rules.proofs.Access.{value-fits, access-fits, accessed-fits}
-use Rattle.rules.proofs.Calls.{acted-fits}
+use Rattle.rules.proofs.Access.{value_fits, access_fits, accessed_fits}
+use Rattle.rules.proofs.Calls.{acted_fits}
 use Rattle.rules.proofs.Parts.{raised}
 use Rattle.rules.proofs.Standing.{Fits, standing, stand}
 use Rattle.rules.proofs.Accessed.{accessed_shape}
@@ -37,13 +37,13 @@ taken_stands m ws s fits t =
     let next = accessed m i a in
     let us = recorded a m.held ws in
     let l : i < m.shape.threads = omega (arith, t.thread) in
-    let fit = access-fits n m ws fits s.verb (place m i) (fits.places i l) t.names t.range in
-    let done = accessed-fits n m ws fits i a l t.room fit in
+    let fit = access_fits n m ws fits s.verb (place m i) (fits.places i l) t.names t.range in
+    let done = accessed_fits n m ws fits i a l t.room fit in
     let here : i < next.shape.threads = rw (accessed_shape m i a) l in
     let known : named next.shape s.verb ≡ true = rw (accessed_shape m i a) t.names in
     let rank : rank_of (place next i) < n + 1 = omega (arith, (done.places i here).0) in
     stand (n + 1) _ us
-    (acted-fits (n + 1) next us (raised n next us t.steps done) i here s.verb _ known t.range rank (value-fits n m ws fits a))
+    (acted_fits (n + 1) next us (raised n next us t.steps done) i here s.verb _ known t.range rank (value_fits n m ws fits a))
 
 -- what a step leaves that is decided by a number
 decided_stands : (r : ℕ) (m : Machine) (ws : List Write) (s : Step) (a : Access) (f : Found) → stands m ws ≡ true

@@ -8,7 +8,7 @@ use native.Mathlib.Nat.{le_trans}
 use native.Mathlib.Omega.{arith}
 use Rattle.rules.proofs.Ranks.{slot_in}
 use Rattle.rules.proofs.Ring.{Stage, aside, saw_free, filling, filled, saw_full, emptying, emptied, fills, empties, Ring}
-use Rattle.rules.proofs.Swapped.{free-now, full-now}
+use Rattle.rules.proofs.Swapped.{free_now, full_now}
 use Rattle.rules.proofs.Updated.{Updated, at_both}
 use Rattle.rules.specs.Queue.{Covers, CoversNoted}
 use Rattle.rank.specs.Rank.{slot_of, next_rank, free_status, full_status}
@@ -86,11 +86,11 @@ module _ (c n : ℕ) (p : Picture) (sg : ℕ → Stage) (vw lf : ℕ → View) (
       record { free = M.free; full = M.full; knows = λ j. at_both uv us (Knows c n p) j (λ _. k) (λ _. M.knows j); untold = M.untold }
 
   -- the head swap, won
-  pub head-won : (h w : ℕ) → Safe c p sg → sg i ≡ saw_free h → s ≡ filling h w → p.head ≡ h → Covers (n + c) x (vw i)
+  pub head_won : (h w : ℕ) → Safe c p sg → sg i ≡ saw_free h → s ≡ filling h w → p.head ≡ h → Covers (n + c) x (vw i)
       → (put : ℕ → Option ℕ) → Updated p.put h (some w) put
       → Memory c n (record { head = next_rank h; tail = p.tail; st = p.st; top = p.top; val = p.val; put = put; published = p.published }) sg' vw' lf
   unfolding next_rank free_status full_status
-  head-won h w I e es eh u put up = record {
+  head_won h w I e es eh u put up = record {
     free = λ j a b. M.free j a (omega arith);
     full = λ j a b d. let f = M.full j a (under j b d) d in (f.0, up.else j (omega (arith, under j b d)) ∙ f.1);
     knows = λ j. at_both uv us (Knows c n q) j
@@ -103,7 +103,7 @@ module _ (c n : ℕ) (p : Picture) (sg : ℕ → Stage) (vw lf : ℕ → View) (
       q = record { head = next_rank h; tail = p.tail; st = p.st; top = p.top; val = p.val; put = put; published = p.published }
 
       was : p.st (slot_of c h) ≡ free_status h
-      was = subst (λ (y : ℕ). p.st (slot_of c y) ≡ free_status y) eh (free-now c p.head p.tail p.st sg I i (e ∙ ap saw_free (sym eh)))
+      was = subst (λ (y : ℕ). p.st (slot_of c y) ≡ free_status y) eh (free_now c p.head p.tail p.st sg I i (e ∙ ap saw_free (sym eh)))
 
       under : (j : ℕ) → j < next_rank h → p.st (slot_of c j) ≡ full_status j → j < p.head
       under j b d = go (ℕ_discrete j h)
@@ -128,10 +128,10 @@ module _ (c n : ℕ) (p : Picture) (sg : ℕ → Stage) (vw lf : ℕ → View) (
       there j y (emptied k v) d f = (f.0, up.else k (emptier j k (subst (λ (z : Stage). empties z k) (sym d) refl)) ∙ f.1)
 
   -- the tail swap, won
-  pub tail-won : (t : ℕ) → Safe c p sg → sg i ≡ saw_full t → s ≡ emptying t → p.tail ≡ t → Covers (n + c) x (vw i)
+  pub tail_won : (t : ℕ) → Safe c p sg → sg i ≡ saw_full t → s ≡ emptying t → p.tail ≡ t → Covers (n + c) x (vw i)
       → Memory c n (record { head = p.head; tail = next_rank t; st = p.st; top = p.top; val = p.val; put = p.put; published = p.published }) sg' vw' lf
   unfolding next_rank
-  tail-won t I e es et u = record {
+  tail_won t I e es et u = record {
     free = M.free;
     full = λ j a b d. M.full j (omega arith) b d;
     knows = λ j. at_both uv us (Knows c n q) j
@@ -146,7 +146,7 @@ module _ (c n : ℕ) (p : Picture) (sg : ℕ → Stage) (vw lf : ℕ → View) (
 
       was : (t < p.head) × (p.st (slot_of c t) ≡ full_status t)
       was = subst (λ (y : ℕ). (y < p.head) × (p.st (slot_of c y) ≡ full_status y)) et
-          (full-now c p.head p.tail p.st sg I i (e ∙ ap saw_full (sym et)))
+          (full_now c p.head p.tail p.st sg I i (e ∙ ap saw_full (sym et)))
 
       there : (y : View) (r : Stage) → Knows c n p y r → Knows c n q y r
       there y aside f = tt
@@ -158,10 +158,10 @@ module _ (c n : ℕ) (p : Picture) (sg : ℕ → Stage) (vw lf : ℕ → View) (
       there y (emptied k v) f = f
 
   -- a write to the cell of slot z, where no other rank of that slot matters
-  pub slot-written : (z : ℕ) (top val : ℕ → ℕ) (a b : ℕ) → Updated p.top z a top → Updated p.val z b val → Clear c p sg i z
+  pub slot_written : (z : ℕ) (top val : ℕ → ℕ) (a b : ℕ) → Updated p.top z a top → Updated p.val z b val → Clear c p sg i z
       → Knows c n (record { head = p.head; tail = p.tail; st = p.st; top = top; val = val; put = p.put; published = p.published }) x s
       → Memory c n (record { head = p.head; tail = p.tail; st = p.st; top = top; val = val; put = p.put; published = p.published }) sg' vw' lf
-  slot-written z top val a b ut ul cl own = record {
+  slot_written z top val a b ut ul cl own = record {
     free = λ j d e. newest j (cl.free j d e) _ (M.free j d e);
     full = λ j d e f. let g = M.full j d e f in let o = cl.full j d f in ((newest j o _ g.0.0, g.0.1), g.1 ∙ ap some (sym (ul.else (slot_of c j) o)));
     knows = λ j. at_both uv us (Knows c n q) j (λ _. own) (λ m. there j m (vw j) (sg j) refl (M.knows j));

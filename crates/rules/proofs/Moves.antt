@@ -16,7 +16,7 @@ use Rattle.rules.specs.Access.{slot_cell, access_of, found_by, accessed}
 use Rattle.rules.specs.Calls.{goes_on, status_name, looks, won_to, swaps, closes, resumed, won_answer, acted}
 use Rattle.rules.specs.Step.{value_of, taken_by, decided_by, asked, refusal_of, decided_of, step_of}
 use Rattle.rules.specs.declared.Done.{Done}
-use Rattle.rules.proofs.Events.{Reading, Writing, Looking, Storing, is-reading, is-writing, is-looking, is-storing}
+use Rattle.rules.proofs.Events.{Reading, Writing, Looking, Storing, is_reading, is_writing, is_looking, is_storing}
 use Rattle.rules.proofs.Ranks.{slot_in}
 use Rattle.rank.specs.Rank.{next_rank, free_status, full_status, lapped}
 use Rattle.refusal.proofs.Passed.{Passed, Current, passed, among_some}
@@ -109,8 +109,8 @@ module _ (m : Machine) (ws : List Write) (i : ℕ) (P : Verb → Answer → Mach
   looked r due q lost f g = go (eqb (atomic_at m (status_name m r)).value due) refl
     where
       go : (z : Bool) → eqb (atomic_at m (status_name m r)).value due ≡ z → Left Go (goes_on z (read_atomic m i (status_name m r)) i q lost) ws
-      go true e = f _ (eqb-true _ _ e) (is-looking m i W l q k (status_name m r))
-      go false e = g _ (is-looking m i W l Idle k (status_name m r))
+      go true e = f _ (eqb-true _ _ e) (is_looking m i W l q k (status_name m r))
+      go false e = g _ (is_looking m i W l Idle k (status_name m r))
 
   -- third of a call
   swapped : (a : Name) (r : ℕ) (q : Place) (lost : Answer) → Room a
@@ -121,8 +121,8 @@ module _ (m : Machine) (ws : List Write) (i : ℕ) (P : Verb → Answer → Mach
   swapped a r q lost room f g = go (eqb (atomic_at m a).value r) refl
     where
       go : (z : Bool) → eqb (atomic_at m a).value r ≡ z → Left Go (won_to (swap_if z m i a (next_rank r)) i q lost) ws
-      go true e = f _ (eqb-true _ _ e) (is-storing m i W l q k a (next_rank r) room)
-      go false e = g _ (is-looking m i W l Idle k a)
+      go true e = f _ (eqb-true _ _ e) (is_storing m i W l q k a (next_rank r) room)
+      go false e = g _ (is_looking m i W l Idle k a)
 
   -- a swap of a flag
   exchanged : (b f u x : ℕ) → f < 8 → place m i ≡ Idle → Left (Swap b u x) (won_answer (swapped_of m i (Flag f) u x) i) ws
@@ -130,8 +130,8 @@ module _ (m : Machine) (ws : List Write) (i : ℕ) (P : Verb → Answer → Mach
   exchanged b f u x h e = go (eqb (atomic_at m (Flag f)).value u)
     where
       go : (z : Bool) → Left (Swap b u x) (won_answer (swap_if z m i (Flag f) x) i) ws
-      go true = A.swap_wins b f u x _ e (is-storing m i W l Idle k (Flag f) x h)
-      go false = A.swap_loses b f u x _ e (is-looking m i W l Idle k (Flag f))
+      go true = A.swap_wins b f u x _ e (is_storing m i W l Idle k (Flag f) x h)
+      go false = A.swap_loses b f u x _ e (is_looking m i W l Idle k (Flag f))
 
   flagged : (f : ℕ) → among f m.shape.flags ≡ true → f - 1 < 8
   flagged f e = omega (arith, among_some _ _ e, B.flags)
@@ -143,50 +143,50 @@ module _ (m : Machine) (ws : List Write) (i : ℕ) (P : Verb → Answer → Mach
   fetched : (c t : ℕ) (q : Place) → outdated (Reads c t) (row m i) ≡ false → amiss (Reads c t) (found_by m ws (Reads c t)) ≡ false
       → Reading m ws i c t (value_of (found_by m ws (Reads c t))) q (with_steps (with_place m i q) k)
   unfolding found_by
-  fetched c t q o f = is-reading m i W l q k ws c t _ (ltb-false _ _ o) (shown _ f)
+  fetched c t q o f = is_reading m i W l q k ws c t _ (ltb-false _ _ o) (shown _ f)
 
   filed : (c t v : ℕ) (q : Place) → full (Writes c t v) m.held (length ws) ≡ false → outdated (Writes c t v) (row m i) ≡ false
       → amiss (Writes c t v) (found_by m ws (Writes c t v)) ≡ false
       → Writing m ws i c t v q (with_steps (with_place (accessed m i (Writes c t v)) i q) k) (recorded (Writes c t v) m.held ws)
   unfolding found_by
-  filed c t v q r o f = is-writing m i W l q k ws c t v (leb-false _ _ (neither _ _ r).1) (leb-false _ _ o) (hidden _ f)
+  filed c t v q r o f = is_writing m i W l q k ws c t v (leb-false _ _ (neither _ _ r).1) (leb-false _ _ o) (hidden _ f)
 
   -- a verb that no test refuses, of a thread at place p
-  by-verb : (v : Verb) (p : Place) → place m i ≡ p → asks v ≡ due_at p → named m.shape v ≡ true
+  by_verb : (v : Verb) (p : Place) → place m i ≡ p → asks v ≡ due_at p → named m.shape v ≡ true
       → full (access_of m.shape v p) m.held (length ws) ≡ false → outdated (access_of m.shape v p) (row m i) ≡ false
       → amiss (access_of m.shape v p) (found_by m ws (access_of m.shape v p)) ≡ false
       → Left v (acted (accessed m i (access_of m.shape v p)) i v (value_of (found_by m ws (access_of m.shape v p))))
       (recorded (access_of m.shape v p) m.held ws)
   unfolding acted accessed recorded resumed closes atomic_at
-  by-verb (Get c t) p e d n f o a = A.gets c t _ _ (e ∙ idle p d) (among_some _ _ n) (fetched c t Idle o a)
-  by-verb (Set c v t) p e d n f o a = A.sets c t v _ _ (e ∙ idle p d) (among_some _ _ n) (filed c t v Idle f o a)
-  by-verb (Load x) p e d n f o a = A.loads x (x - 1) _ (e ∙ idle p d) (is-looking m i W l Idle k (Flag (x - 1)))
-  by-verb (Store x v) p e d n f o a =
-      A.stores x (x - 1) v _ (e ∙ idle p d) (is-storing m i W l Idle k (Flag (x - 1)) v (flagged x n))
-  by-verb (Swap x u v) p e d n f o a = exchanged x (x - 1) u v (flagged x n) (e ∙ idle p d)
-  by-verb (Put w) p e d n f o a = A.put_begins w _ (e ∙ idle p d) (is-looking m i W l _ k Head)
-  by-verb Take p e d n f o a = A.take_begins _ (e ∙ idle p d) (is-looking m i W l _ k Tail)
-  by-verb Go Idle e d n f o a = absurd (omega arith)
-  by-verb Go (PutStatus h w) e d n f o a = rw e (looked h (free_status h) (PutSwap h w) No (λ x. A.put_sees h w x e) (λ x. A.put_stops h w x e))
-  by-verb Go (PutSwap h w) e d n f o a = rw e (swapped Head h (PutWrite h w) No tt (λ x. A.put_wins h w x e) (λ x. A.put_loses h w x e))
-  by-verb Go (PutWrite h w) e d n f o a = absurd (omega arith)
-  by-verb Go (PutPublish h) e d n f o a = rw e (A.put_ends h _ e (is-storing m i W l Idle k (status_name m h) (full_status h) (slotted h)))
-  by-verb Go (TakeStatus t) e d n f o a = rw e (looked t (full_status t) (TakeSwap t) None (λ x. A.take_sees t x e) (λ x. A.take_stops t x e))
-  by-verb Go (TakeSwap t) e d n f o a = rw e (swapped Tail t (TakeRead t) None tt (λ x. A.take_wins t x e) (λ x. A.take_loses t x e))
-  by-verb Go (TakeRead t) e d n f o a = absurd (omega arith)
-  by-verb Go (TakeFree t w) e d n f o a =
-      rw e (A.take_ends t w _ e (is-storing m i W l Idle k (status_name m t) (free_status (lapped m.shape.slots t)) (slotted t)))
-  by-verb (GoAt z) Idle e d n f o a = absurd (omega arith)
-  by-verb (GoAt z) (PutStatus h w) e d n f o a = absurd (omega arith)
-  by-verb (GoAt z) (PutSwap h w) e d n f o a = absurd (omega arith)
-  by-verb (GoAt z) (PutWrite h w) e d n f o a =
+  by_verb (Get c t) p e d n f o a = A.gets c t _ _ (e ∙ idle p d) (among_some _ _ n) (fetched c t Idle o a)
+  by_verb (Set c v t) p e d n f o a = A.sets c t v _ _ (e ∙ idle p d) (among_some _ _ n) (filed c t v Idle f o a)
+  by_verb (Load x) p e d n f o a = A.loads x (x - 1) _ (e ∙ idle p d) (is_looking m i W l Idle k (Flag (x - 1)))
+  by_verb (Store x v) p e d n f o a =
+      A.stores x (x - 1) v _ (e ∙ idle p d) (is_storing m i W l Idle k (Flag (x - 1)) v (flagged x n))
+  by_verb (Swap x u v) p e d n f o a = exchanged x (x - 1) u v (flagged x n) (e ∙ idle p d)
+  by_verb (Put w) p e d n f o a = A.put_begins w _ (e ∙ idle p d) (is_looking m i W l _ k Head)
+  by_verb Take p e d n f o a = A.take_begins _ (e ∙ idle p d) (is_looking m i W l _ k Tail)
+  by_verb Go Idle e d n f o a = absurd (omega arith)
+  by_verb Go (PutStatus h w) e d n f o a = rw e (looked h (free_status h) (PutSwap h w) No (λ x. A.put_sees h w x e) (λ x. A.put_stops h w x e))
+  by_verb Go (PutSwap h w) e d n f o a = rw e (swapped Head h (PutWrite h w) No tt (λ x. A.put_wins h w x e) (λ x. A.put_loses h w x e))
+  by_verb Go (PutWrite h w) e d n f o a = absurd (omega arith)
+  by_verb Go (PutPublish h) e d n f o a = rw e (A.put_ends h _ e (is_storing m i W l Idle k (status_name m h) (full_status h) (slotted h)))
+  by_verb Go (TakeStatus t) e d n f o a = rw e (looked t (full_status t) (TakeSwap t) None (λ x. A.take_sees t x e) (λ x. A.take_stops t x e))
+  by_verb Go (TakeSwap t) e d n f o a = rw e (swapped Tail t (TakeRead t) None tt (λ x. A.take_wins t x e) (λ x. A.take_loses t x e))
+  by_verb Go (TakeRead t) e d n f o a = absurd (omega arith)
+  by_verb Go (TakeFree t w) e d n f o a =
+      rw e (A.take_ends t w _ e (is_storing m i W l Idle k (status_name m t) (free_status (lapped m.shape.slots t)) (slotted t)))
+  by_verb (GoAt z) Idle e d n f o a = absurd (omega arith)
+  by_verb (GoAt z) (PutStatus h w) e d n f o a = absurd (omega arith)
+  by_verb (GoAt z) (PutSwap h w) e d n f o a = absurd (omega arith)
+  by_verb (GoAt z) (PutWrite h w) e d n f o a =
       rw (accessed_place m i (Writes (slot_cell m.shape h) z w) i, e)
       (A.put_writes h w z _ _ e (filed (slot_cell m.shape h) z w (PutPublish h) f o a))
-  by-verb (GoAt z) (PutPublish h) e d n f o a = absurd (omega arith)
-  by-verb (GoAt z) (TakeStatus t) e d n f o a = absurd (omega arith)
-  by-verb (GoAt z) (TakeSwap t) e d n f o a = absurd (omega arith)
-  by-verb (GoAt z) (TakeRead t) e d n f o a = rw e (A.take_reads t z _ _ e (fetched (slot_cell m.shape t) z (TakeFree t _) o a))
-  by-verb (GoAt z) (TakeFree t w) e d n f o a = absurd (omega arith)
+  by_verb (GoAt z) (PutPublish h) e d n f o a = absurd (omega arith)
+  by_verb (GoAt z) (TakeStatus t) e d n f o a = absurd (omega arith)
+  by_verb (GoAt z) (TakeSwap t) e d n f o a = absurd (omega arith)
+  by_verb (GoAt z) (TakeRead t) e d n f o a = rw e (A.take_reads t z _ _ e (fetched (slot_cell m.shape t) z (TakeFree t _) o a))
+  by_verb (GoAt z) (TakeFree t w) e d n f o a = absurd (omega arith)
 
 -- what a step leaves: nothing new if it is refused, else what its move says
 pub by_moves : (m : Machine) (ws : List Write) (s : Step) (P : Verb → Answer → Machine → List Write → Type 0) → Whole m
@@ -204,7 +204,7 @@ by_moves m ws s P W still A = go (refusal_of m ws s) refl
         (recorded (asked m s) m.held ws)
     taken (t, c) =
         let B = bounds m ws t.stands in
-        by-verb m ws i P W B (omega (arith, t.thread, B.threads)) (m.steps + 1) (A (omega (arith, t.thread))) s.verb (place m i) refl
+        by_verb m ws i P W B (omega (arith, t.thread, B.threads)) (m.steps + 1) (A (omega (arith, t.thread))) s.verb (place m i) refl
         t.due t.names t.room c.0 c.1
 
     go : (r : ℕ) → refusal_of m ws s ≡ r

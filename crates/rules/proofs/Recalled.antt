@@ -16,7 +16,7 @@ use Rattle.rules.specs.Access.{slot_cell}
 use Rattle.rules.specs.Calls.{status_name}
 use Rattle.rules.proofs.Calm.{same_name}
 use Rattle.rules.proofs.Events.{Goes, Reading, Writing, Looking, Storing}
-use Rattle.rules.proofs.Joins.{met-here, told_here}
+use Rattle.rules.proofs.Joins.{met_here, told_here}
 use Rattle.rules.proofs.Moves.{Moves}
 use Rattle.rules.proofs.Ranks.{slot_in}
 use Rattle.rules.proofs.Updated.{at_each}
@@ -85,9 +85,9 @@ module _ (m : Machine) (ws : List Write) (i : ℕ) (W : Whole m) (B : Bounds m.s
   Now o us = Recalled (cells_of m) (first_of m) o us
 
   -- the list as it was: new rows and cells whose stamps the history has
-  same-list : (o : Machine) → o.held ≡ m.held → ((j : ℕ) → ShowsAll (cells_of m) (first_of m) ws m.held (row o j))
+  same_list : (o : Machine) → o.held ≡ m.held → ((j : ℕ) → ShowsAll (cells_of m) (first_of m) ws m.held (row o j))
       → ((a : Name) → ShowsAll (cells_of m) (first_of m) ws m.held (atomic_at o a).view) → Now o ws
-  same-list o e f g =
+  same_list o e f g =
       record {
         rows = λ j. subst (λ (n : ℕ). ShowsAll (cells_of m) (first_of m) ws n (row o j)) (sym e) (f j);
         cells = λ a. subst (λ (n : ℕ). ShowsAll (cells_of m) (first_of m) ws n (atomic_at o a).view) (sym e) (g a);
@@ -103,11 +103,11 @@ module _ (m : Machine) (ws : List Write) (i : ℕ) (W : Whole m) (B : Bounds m.s
       go (yes l) = let d : u ≡ t = omega arith in rw d q
       go (no l) = let d : u ≡ s = omega arith in rw d p
 
-  met-shows : (a : Name) → ShowsAll (cells_of m) (first_of m) ws m.held (met m i a)
-  met-shows a j l = larger j _ _ _ (met-here m i a W B j l) (K.rows i j l) (K.cells a j l)
+  met_shows : (a : Name) → ShowsAll (cells_of m) (first_of m) ws m.held (met m i a)
+  met_shows a j l = larger j _ _ _ (met_here m i a W B j l) (K.rows i j l) (K.cells a j l)
 
-  told-shows : (a : Name) → ShowsAll (cells_of m) (first_of m) ws m.held (told m i a)
-  told-shows a j l = larger j _ _ _ (told_here m i a W B j l) (K.cells a j l) (K.rows i j l)
+  told_shows : (a : Name) → ShowsAll (cells_of m) (first_of m) ws m.held (told m i a)
+  told_shows a j l = larger j _ _ _ (told_here m i a W B j l) (K.cells a j l) (K.rows i j l)
 
   went : (q : Place) (v : View) (o : Machine) → Goes m o i q v → ShowsAll (cells_of m) (first_of m) ws m.held v
       → (j : ℕ) → ShowsAll (cells_of m) (first_of m) ws m.held (row o j)
@@ -117,16 +117,16 @@ module _ (m : Machine) (ws : List Write) (i : ℕ) (W : Whole m) (B : Bounds m.s
   alike o h a = subst (λ (x : Atomic). ShowsAll (cells_of m) (first_of m) ws m.held x.view) (sym (h a)) (K.cells a)
 
   reads : (b t v : ℕ) (q : Place) (o : Machine) → Reading m ws i b t v q o → Now o ws
-  reads b t v q o x = same-list o x.held (went q (row m i) o x.goes (K.rows i)) (alike o x.cells)
+  reads b t v q o x = same_list o x.held (went q (row m i) o x.goes (K.rows i)) (alike o x.cells)
 
   looks : (a : Name) (q : Place) (o : Machine) → Looking m i a q o → Now o ws
-  looks a q o x = same-list o x.held (went q (met m i a) o x.goes (met-shows a)) (alike o x.cells)
+  looks a q o x = same_list o x.held (went q (met m i a) o x.goes (met_shows a)) (alike o x.cells)
 
   stores : (a : Name) (v : ℕ) (q : Place) (o : Machine) → Storing m i a v q o → Now o ws
-  stores a v q o x = same-list o x.held (went q (met m i a) o x.goes (met-shows a)) (λ b. go b (same_name b a))
+  stores a v q o x = same_list o x.held (went q (met m i a) o x.goes (met_shows a)) (λ b. go b (same_name b a))
     where
       go : (b : Name) → Dec (b ≡ a) → ShowsAll (cells_of m) (first_of m) ws m.held (atomic_at o b).view
-      go b (yes e) = subst (λ (y : Atomic). ShowsAll (cells_of m) (first_of m) ws m.held y.view) (sym (ap (atomic_at o) e ∙ x.here)) (told-shows a)
+      go b (yes e) = subst (λ (y : Atomic). ShowsAll (cells_of m) (first_of m) ws m.held y.view) (sym (ap (atomic_at o) e ∙ x.here)) (told_shows a)
       go b (no n) = subst (λ (y : Atomic). ShowsAll (cells_of m) (first_of m) ws m.held y.view) (sym (x.else b n)) (K.cells b)
 
   writes : (b t v : ℕ) (q : Place) (o : Machine) (us : List Write) → (1 ≤ b) × (b ≤ cells_of m) → Writing m ws i b t v q o us → Now o us
@@ -190,9 +190,9 @@ module _ (m : Machine) (ws : List Write) (i : ℕ) (W : Whole m) (B : Bounds m.s
       above y p (yes e) = rw (ap (nth new) e ∙ last) (omega (arith, x.above))
       above y p (no e) = rw (before y e) (K.positive y (omega arith))
 
-  pub recall-moves : Moves m ws i (λ v a o us. Recalled (cells_of m) (first_of m) o us)
+  pub recall_moves : Moves m ws i (λ v a o us. Recalled (cells_of m) (first_of m) o us)
   unfolding cells_of slot_cell
-  recall-moves =
+  recall_moves =
       record {
         gets = λ b t v o e _ x. reads b t v Idle o x;
         sets = λ b t v o us e r x. writes b t v Idle o us (r.0, omega (arith, r.1)) x;

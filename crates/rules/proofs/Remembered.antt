@@ -11,12 +11,12 @@ use Rattle.atomic.specs.Atomic.{met, told}
 use Rattle.rules.specs.Access.{slot_cell}
 use Rattle.rules.specs.Calls.{status_name}
 use Rattle.rules.specs.Step.{value_of}
-use Rattle.rules.proofs.Calm.{status_at, Calm, all_calm, flag-calm, head-stored, tail-stored, status-stored}
+use Rattle.rules.proofs.Calm.{status_at, Calm, all_calm, flag_calm, head_stored, tail_stored, status_stored}
 use Rattle.rules.proofs.Events.{Goes, Writing, Looking, Storing}
-use Rattle.rules.proofs.Handed.{put_ended, take_ended, fill-clear}
+use Rattle.rules.proofs.Handed.{put_ended, take_ended, fill_clear}
 use Rattle.rules.proofs.Histories.{newest_more, newer_else, newer_here, found_under, newest_shown}
-use Rattle.rules.proofs.Joins.{met-own, met-cell, told-own, told-met}
-use Rattle.rules.proofs.Learnt.{Picture, Knows, Memory, newest_up, brings_up, look, head-won, tail-won, slot-written}
+use Rattle.rules.proofs.Joins.{met_own, met_cell, told_own, told_met}
+use Rattle.rules.proofs.Learnt.{Picture, Knows, Memory, newest_up, brings_up, look, head_won, tail_won, slot_written}
 use Rattle.rules.proofs.Listed.{Marked, ListedAt, one_more}
 use Rattle.rules.proofs.Moves.{Moves}
 use Rattle.rules.proofs.Ranks.{slot_in}
@@ -99,20 +99,20 @@ module _ (m : Machine) (ws : List Write) (nt : Seen) (i : ℕ) (W : Whole m) (B 
   Now o us nt' = Remembered c pl (first_of m) o us nt'
 
   -- the newest write of a slot, before and after one record more
-  abbrev newestNow : ℕ → Newest
-  newestNow z = newest_of pl (first_of m) ws m.held z
+  abbrev newest_now : ℕ → Newest
+  newest_now z = newest_of pl (first_of m) ws m.held z
 
-  abbrev newestIn : List Write → ℕ → Newest
-  newestIn us z = newest_of pl (first_of m) us (suc m.held) z
+  abbrev newest_in : List Write → ℕ → Newest
+  newest_in us z = newest_of pl (first_of m) us (suc m.held) z
 
   -- what a thread knows at its place
-  pub knew-at : (p : Place) → place m i ≡ p → Knows c pl pic (row m i) (stage p)
-  knew-at p e = subst (λ (x : Place). Knows c pl pic (row m i) (stage x)) e (M.knows i)
+  pub knew_at : (p : Place) → place m i ≡ p → Knows c pl pic (row m i) (stage p)
+  knew_at p e = subst (λ (x : Place). Knows c pl pic (row m i) (stage x)) e (M.knows i)
 
   -- a take's read: the newest stamp and no other, and so the newest value
   pub one_stamp : (t s w : ℕ) → place m i ≡ TakeRead t → stamp_of (row m i) (slot_cell m.shape t - 1) ≤ s
       → found (first_of m (slot_cell m.shape t - 1)) ws (slot_cell m.shape t) s m.held ≡ Present w
-      → (s ≡ (newestNow (slot_of c t)).stamp) × (w ≡ (newestNow (slot_of c t)).value)
+      → (s ≡ (newest_now (slot_of c t)).stamp) × (w ≡ (newest_now (slot_of c t)).value)
   unfolding slot_cell
   one_stamp t s w e low shown = (
     same,
@@ -125,15 +125,15 @@ module _ (m : Machine) (ws : List Write) (nt : Seen) (i : ℕ) (W : Whole m) (B 
       spot : z - 1 ≡ pl + slot_of c t
       spot = omega arith
 
-      same : s ≡ (newestNow (slot_of c t)).stamp
+      same : s ≡ (newest_now (slot_of c t)).stamp
       same =
-          let below : s ≤ (newestNow (slot_of c t)).stamp = found_under (first_of m (z - 1)) ws z s w m.held shown in
-          omega (arith, rw spot at low, (knew-at (TakeRead t) e).0.0)
+          let below : s ≤ (newest_now (slot_of c t)).stamp = found_under (first_of m (z - 1)) ws z s w m.held shown in
+          omega (arith, rw spot at low, (knew_at (TakeRead t) e).0.0)
 
   -- a join covers the thread's own view
   own : (a : Name) → Covers (pl + c) (met m i a) (row m i)
   unfolding cells_of
-  own a = met-own m i a W B
+  own a = met_own m i a W B
 
   -- an event that leaves head, tail, statuses and list: on to place q with view v
   quiet : (q : Place) (v : View) (o : Machine) → Goes m o i q v → Calm m o → o.held ≡ m.held
@@ -147,47 +147,47 @@ module _ (m : Machine) (ws : List Write) (nt : Seen) (i : ℕ) (W : Whole m) (B 
   looks a q o x f = quiet q (met m i a) o x.goes (all_calm m o x.cells) x.held f
 
   flags : (f x : ℕ) (o : Machine) → Storing m i (Flag f) x Idle o → Now o ws nt
-  flags f x o s = quiet Idle (met m i (Flag f)) o s.goes (flag-calm m i x Idle o f s) s.held tt
+  flags f x o s = quiet Idle (met m i (Flag f)) o s.goes (flag_calm m i x Idle o f s) s.held tt
 
   -- a plain write to cell b: what becomes of the newest write of slot z
   filed : (b t v : ℕ) (q : Place) (o : Machine) (us : List Write) → Writing m ws i b t v q o us → (z : ℕ)
-      → newestIn us z ≡ newer (newestNow z) (write b t v) (pl + 1 + z)
+      → newest_in us z ≡ newer (newest_now z) (write b t v) (pl + 1 + z)
   filed b t v q o us x z = rw x.filed (newest_more (first_of m (pl + 1 + z - 1)) ws (write b t v) (pl + 1 + z) m.held x.room)
 
-  filed-else : (b t v : ℕ) (q : Place) (o : Machine) (us : List Write) → Writing m ws i b t v q o us → (z : ℕ) → b ≢ pl + 1 + z
-      → newestIn us z ≡ newestNow z
-  filed-else b t v q o us x z d = filed b t v q o us x z ∙ newer_else _ (write b t v) (pl + 1 + z) d
+  filed_else : (b t v : ℕ) (q : Place) (o : Machine) (us : List Write) → Writing m ws i b t v q o us → (z : ℕ) → b ≢ pl + 1 + z
+      → newest_in us z ≡ newest_now z
+  filed_else b t v q o us x z d = filed b t v q o us x z ∙ newer_else _ (write b t v) (pl + 1 + z) d
 
   -- a plain write to a plain cell touches no slot
   sets : (b t v : ℕ) (o : Machine) (us : List Write) → (1 ≤ b) × (b ≤ pl) → Writing m ws i b t v Idle o us → Now o us nt
   sets b t v o us r x =
       let k = all_calm m o x.cells in
       memory_as c pl (first_of m) o us nt _ _ _ (status_at m) x.held k.head k.tail k.statuses
-      (slot-written c pl pic (stages m) (row m) (left_by m) M i aside _ (stages o) (mapped stage x.goes.places)
-      (row o) x.goes.rows c (λ z. (newestIn us z).stamp) (λ z. (newestIn us z).value) _ _
+      (slot_written c pl pic (stages m) (row m) (left_by m) M i aside _ (stages o) (mapped stage x.goes.places)
+      (row o) x.goes.rows c (λ z. (newest_in us z).stamp) (λ z. (newest_in us z).value) _ _
       (record { here = refl; else = λ j _. ap (λ (y : Newest). y.stamp) (same j) })
       (record { here = refl; else = λ j _. ap (λ (y : Newest). y.value) (same j) })
       (record { free = λ j _ _. none j; full = λ j _ _. none j; filling = λ _ j _ _. none j; emptying = λ _ j _ _. none j }) tt)
     where
-      same : (z : ℕ) → newestIn us z ≡ newestNow z
-      same z = filed-else b t v Idle o us x z (λ e. omega arith)
+      same : (z : ℕ) → newest_in us z ≡ newest_now z
+      same z = filed_else b t v Idle o us x z (λ e. omega arith)
 
       none : (j : ℕ) → slot_of c j ≢ c
       none j e = omega (arith, slot_in c j R.some)
 
   -- a put's write is the newest of its slot
-  put-write : (h w t : ℕ) (o : Machine) (us : List Write) → place m i ≡ PutWrite h w
+  put_write : (h w t : ℕ) (o : Machine) (us : List Write) → place m i ≡ PutWrite h w
       → Writing m ws i (slot_cell m.shape h) t w (PutPublish h) o us → Now o us nt
   unfolding slot_cell
-  put-write h w t o us e x =
+  put_write h w t o us e x =
       let k = all_calm m o x.cells in
       memory_as c pl (first_of m) o us nt _ _ _ (status_at m) x.held k.head k.tail k.statuses
-      (slot-written c pl pic (stages m) (row m) (left_by m) M i (filled h) _ (stages o) (mapped stage x.goes.places)
-      (row o) x.goes.rows z (λ j. (newestIn us j).stamp) (λ j. (newestIn us j).value) t w
+      (slot_written c pl pic (stages m) (row m) (left_by m) M i (filled h) _ (stages o) (mapped stage x.goes.places)
+      (row o) x.goes.rows z (λ j. (newest_in us j).stamp) (λ j. (newest_in us j).value) t w
       (record { here = ap (λ (y : Newest). y.stamp) here; else = λ j d. ap (λ (y : Newest). y.stamp) (far j d) })
       (record { here = ap (λ (y : Newest). y.value) here; else = λ j d. ap (λ (y : Newest). y.value) (far j d) })
-      (fill-clear c pic (stages m) R i h (subst (λ (y : Place). fills (stage y) h) (sym e) refl))
-      (le_of_eq (ap (λ (y : Newest). y.stamp) here ∙ sym seen), (knew-at (PutWrite h w) e).1 ∙ ap some (sym (ap (λ (y : Newest). y.value) here)), (knew-at (PutWrite h w) e).2))
+      (fill_clear c pic (stages m) R i h (subst (λ (y : Place). fills (stage y) h) (sym e) refl))
+      (le_of_eq (ap (λ (y : Newest). y.stamp) here ∙ sym seen), (knew_at (PutWrite h w) e).1 ∙ ap some (sym (ap (λ (y : Newest). y.value) here)), (knew_at (PutWrite h w) e).2))
     where
       z : ℕ
       z = slot_of c h
@@ -195,13 +195,13 @@ module _ (m : Machine) (ws : List Write) (nt : Seen) (i : ℕ) (W : Whole m) (B 
       spot : pl + 1 + z - 1 ≡ pl + z
       spot = omega arith
 
-      here : newestIn us z ≡ record { stamp = t; value = w }
+      here : newest_in us z ≡ record { stamp = t; value = w }
       here =
           filed (pl + 1 + z) t w (PutPublish h) o us x z
-          ∙ newer_here _ (pl + 1 + z) t w (omega (arith, (knew-at (PutWrite h w) e).0, rw spot at x.above))
+          ∙ newer_here _ (pl + 1 + z) t w (omega (arith, (knew_at (PutWrite h w) e).0, rw spot at x.above))
 
-      far : (j : ℕ) → j ≢ z → newestIn us j ≡ newestNow j
-      far j d = filed-else (pl + 1 + z) t w (PutPublish h) o us x j (λ f. d (omega arith))
+      far : (j : ℕ) → j ≢ z → newest_in us j ≡ newest_now j
+      far j d = filed_else (pl + 1 + z) t w (PutPublish h) o us x j (λ f. d (omega arith))
 
       seen : stamp_of (with_stamp (row m i) (pl + 1 + z - 1) t) (pl + z) ≡ t
       seen = rw spot (stamp_here (row m i) (pl + z) t (omega (arith, W.rows i, slot_in c h R.some, B.plain, B.slots)))
@@ -211,46 +211,46 @@ module _ (m : Machine) (ws : List Write) (nt : Seen) (i : ℕ) (W : Whole m) (B 
       → Now o ws (heard i (row o i) (putting w 4 h) Yes nt)
   unfolding cells_of
   publishes w h o e x =
-      let r = status-stored m i (full_status h) Idle o (slot_of c h) x in
+      let r = status_stored m i (full_status h) Idle o (slot_of c h) x in
       memory_as c pl (first_of m) o ws (heard i (row o i) (putting w 4 h) Yes nt) _ _ _ (status_at o) x.held r.0 r.1 (λ _. refl)
       (put_ended c pl pic (stages m) (row m) (left_by m) M R i (row o i) _ (stages o) (mapped stage x.goes.places)
-      (row o) (record { here = refl; else = x.goes.rows.else }) (status o) (left_by o) (told-own m i (status_name m h) W B)
+      (row o) (record { here = refl; else = x.goes.rows.else }) (status o) (left_by o) (told_own m i (status_name m h) W B)
       h (ap stage e) (mapped (λ (y : Atomic). y.value) r.2) (mapped (λ (y : Atomic). y.view) r.2)
-      (subst (Covers (pl + c) (told m i (status_name m h))) (sym x.goes.rows.here) (told-met m i (status_name m h) W B))
+      (subst (Covers (pl + c) (told m i (status_name m h))) (sym x.goes.rows.here) (told_met m i (status_name m h) W B))
       _ (changed nt.published h (some (row o i))))
 
   -- a take frees its slot
   frees : (t w : ℕ) (o : Machine) → place m i ≡ TakeFree t w → Storing m i (status_name m t) (free_status (lapped c t)) Idle o → Now o ws nt
   unfolding cells_of
   frees t w o e x =
-      let r = status-stored m i (free_status (lapped c t)) Idle o (slot_of c t) x in
+      let r = status_stored m i (free_status (lapped c t)) Idle o (slot_of c t) x in
       memory_as c pl (first_of m) o ws nt _ _ _ (status_at o) x.held r.0 r.1 (λ _. refl)
       (take_ended c pl pic (stages m) (row m) (left_by m) M R i (met m i (status_name m t)) _ (stages o)
-      (mapped stage x.goes.places) (row o) x.goes.rows (status o) (left_by o) (told-own m i (status_name m t) W B)
+      (mapped stage x.goes.places) (row o) x.goes.rows (status o) (left_by o) (told_own m i (status_name m t) W B)
       t w (ap stage e) (mapped (λ (y : Atomic). y.value) r.2) (mapped (λ (y : Atomic). y.view) r.2))
 
   -- a swap is won
-  wins-a-head : (h w : ℕ) (o : Machine) → place m i ≡ PutSwap h w → m.head.value ≡ h → length (ins nt.ops) ≡ h → Storing m i Head (next_rank h) (PutWrite h w) o
+  wins_a_head : (h w : ℕ) (o : Machine) → place m i ≡ PutSwap h w → m.head.value ≡ h → length (ins nt.ops) ≡ h → Storing m i Head (next_rank h) (PutWrite h w) o
       → Now o ws (heard i (row o i) (putting w 2 0) Dash nt)
   unfolding ins
-  wins-a-head h w o e d n x =
-      let r = head-stored m i (next_rank h) (PutWrite h w) o x in
+  wins_a_head h w o e d n x =
+      let r = head_stored m i (next_rank h) (PutWrite h w) o x in
       memory_as c pl (first_of m) o ws (heard i (row o i) (putting w 2 0) Dash nt) _ _ _ (status_at m) x.held r.0 r.1 r.2
-      (head-won c pl pic (stages m) (row m) (left_by m) M i (filling h w) _ (stages o) (mapped stage x.goes.places)
+      (head_won c pl pic (stages m) (row m) (left_by m) M i (filling h w) _ (stages o) (mapped stage x.goes.places)
       (row o) x.goes.rows h w R (ap stage e) refl d (own Head) _ (one_more (ins nt.ops) h w n))
 
-  wins-a-tail : (t : ℕ) (o : Machine) → place m i ≡ TakeSwap t → m.tail.value ≡ t → Storing m i Tail (next_rank t) (TakeRead t) o
+  wins_a_tail : (t : ℕ) (o : Machine) → place m i ≡ TakeSwap t → m.tail.value ≡ t → Storing m i Tail (next_rank t) (TakeRead t) o
       → Now o ws (heard i (row o i) (taking 2 0) Dash nt)
   unfolding ins
-  wins-a-tail t o e d x =
-      let r = tail-stored m i (next_rank t) (TakeRead t) o x in
+  wins_a_tail t o e d x =
+      let r = tail_stored m i (next_rank t) (TakeRead t) o x in
       memory_as c pl (first_of m) o ws (heard i (row o i) (taking 2 0) Dash nt) _ _ _ (status_at m) x.held r.0 r.1 r.2
-      (tail-won c pl pic (stages m) (row m) (left_by m) M i (emptying t) _ (stages o) (mapped stage x.goes.places)
+      (tail_won c pl pic (stages m) (row m) (left_by m) M i (emptying t) _ (stages o) (mapped stage x.goes.places)
       (row o) x.goes.rows t R (ap stage e) refl d (own Tail))
 
-  pub memory-moves : ListedAt c m nt → Moves m ws i (λ v a o us. Now o us (heard i (row o i) (under (nt.calls i) v) a nt))
+  pub memory_moves : ListedAt c m nt → Moves m ws i (λ v a o us. Now o us (heard i (row o i) (under (nt.calls i) v) a nt))
   unfolding cells_of
-  memory-moves L =
+  memory_moves L =
       record {
         gets = λ b t v o e _ x. quiet Idle (row m i) o x.goes (all_calm m o x.cells) x.held tt;
         sets = λ b t v o us e r x. sets b t v o us r x;
@@ -260,20 +260,20 @@ module _ (m : Machine) (ws : List Write) (nt : Seen) (i : ℕ) (W : Whole m) (B 
         swap_loses = λ b f u v o e x. looks (Flag f) Idle o x tt;
         put_begins = λ w o e x. rw (mark Idle e) (looks Head (PutStatus m.head.value w) o x tt);
         put_sees = λ h w o e d x. rw (mark (PutStatus h w) e) (looks (status_name m h) (PutSwap h w) o x
-            (λ a f. newest_up c pl pic.top h _ _ R.some (met-cell m i (status_name m h) W B) (M.free h a f)));
+            (λ a f. newest_up c pl pic.top h _ _ R.some (met_cell m i (status_name m h) W B) (M.free h a f)));
         put_stops = λ h w o e x. looks (status_name m h) Idle o x tt;
-        put_wins = λ h w o e d x. rw (mark (PutSwap h w) e) (wins-a-head h w o e d (L.put ∙ d) x);
+        put_wins = λ h w o e d x. rw (mark (PutSwap h w) e) (wins_a_head h w o e d (L.put ∙ d) x);
         put_loses = λ h w o e x. looks Head Idle o x tt;
-        put_writes = λ h w t o us e x. rw (mark (PutWrite h w) e) (put-write h w t o us e x);
+        put_writes = λ h w t o us e x. rw (mark (PutWrite h w) e) (put_write h w t o us e x);
         put_ends = λ h o e x. let y = mark (PutPublish h) e in rw y.1 (publishes y.0 h o e x);
         take_begins = λ o e x. rw (mark Idle e) (looks Tail (TakeStatus m.tail.value) o x tt);
         take_sees = λ t o e d x. rw (mark (TakeStatus t) e) (looks (status_name m t) (TakeSwap t) o x
-            (λ a f l. brings_up c pl pic t _ _ R.some (met-cell m i (status_name m t) W B) (M.full t f l a).0));
+            (λ a f l. brings_up c pl pic t _ _ R.some (met_cell m i (status_name m t) W B) (M.full t f l a).0));
         take_stops = λ t o e x. looks (status_name m t) Idle o x tt;
-        take_wins = λ t o e d x. rw (mark (TakeSwap t) e) (wins-a-tail t o e d x);
+        take_wins = λ t o e d x. rw (mark (TakeSwap t) e) (wins_a_tail t o e d x);
         take_loses = λ t o e x. looks Tail Idle o x tt;
         take_reads = λ t s w o e x.
-            let k = knew-at (TakeRead t) e in
+            let k = knew_at (TakeRead t) e in
             rw (mark (TakeRead t) e) (quiet (TakeFree t w) (row m i) o x.goes (all_calm m o x.cells) x.held
             (k.0, k.1 ∙ ap some (sym (one_stamp t s w e x.low x.shown).1)));
         take_ends = λ t w o e x. frees t w o e x;

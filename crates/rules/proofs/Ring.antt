@@ -99,8 +99,8 @@ module _ (at : ℕ → Stage) (i : ℕ) (r : Stage) (at' : ℕ → Stage) (u : U
 
 module _ (c h t : ℕ) (st : ℕ → ℕ) (at : ℕ → Stage) (I : Ring c h t st at) (i : ℕ) (r : Stage) (at' : ℕ → Stage) (u : Updated at i r at') where
   -- the thread holds what it held, and what it says it saw is so
-  pub same-hold : fills (at i) ≡ fills r → empties (at i) ≡ empties r → Saw c st r → Ring c h t st at'
-  same-hold f e a =
+  pub same_hold : fills (at i) ≡ fills r → empties (at i) ≡ empties r → Saw c st r → Ring c h t st at'
+  same_hold f e a =
       record {
         some = I.some;
         low = I.low;

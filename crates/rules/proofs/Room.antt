@@ -7,7 +7,7 @@ use native.Mathlib.Omega.{arith}
 use lib.Dec.{eqb}
 use lib.ListN.{length, get_or}
 use Rattle.atomic.specs.Atomic.{met, told, read_atomic, write_atomic, swap_if, swapped_of}
-use Rattle.rules.proofs.Access.{AccessFits, access-fits}
+use Rattle.rules.proofs.Access.{AccessFits, access_fits}
 use Rattle.rules.proofs.Calls.{flag_in}
 use Rattle.rules.proofs.Each.{set_each, atomic_each}
 use Rattle.rules.proofs.Parts.{Known}
@@ -141,72 +141,72 @@ atomic_room m a x l h =
 
 module _ (m : Machine) (i : ℕ) (l : i < m.shape.threads) where
   -- a place replaced after a change
-  placed-room : {n : Machine} (p : Place) → SameRoom m n → SameRoom m (with_place n i p)
-  placed-room p r = room_then r (place_room _ i p (rw r.shape l))
+  placed_room : {n : Machine} (p : Place) → SameRoom m n → SameRoom m (with_place n i p)
+  placed_room p r = room_then r (place_room _ i p (rw r.shape l))
 
   -- a call goes on or ends
-  goes-on-room : (b : Bool) {n : Machine} (p : Place) (lost : Answer) → SameRoom m n → SameRoom m (goes_on b n i p lost).machine
+  goes_on_room : (b : Bool) {n : Machine} (p : Place) (lost : Answer) → SameRoom m n → SameRoom m (goes_on b n i p lost).machine
   unfolding goes_on
-  goes-on-room true p lost r = placed-room p r
-  goes-on-room false p lost r = placed-room Idle r
+  goes_on_room true p lost r = placed_room p r
+  goes_on_room false p lost r = placed_room Idle r
 
   -- a plain access
-  accessed-room : (a : Access) → AccessFits (cells_of m) a → SameRoom m (accessed m i a)
+  accessed_room : (a : Access) → AccessFits (cells_of m) a → SameRoom m (accessed m i a)
   unfolding accessed
-  accessed-room NoAccess h = room_same m
-  accessed-room (Reads c t) h = room_same m
-  accessed-room (Writes c t v) h =
+  accessed_room NoAccess h = room_same m
+  accessed_room (Reads c t) h = room_same m
+  accessed_room (Writes c t v) h =
       room_then (row_room m i (with_stamp (row m i) (c - 1) t) l (λ e g. stamp_else (row m i) (c - 1) e t (λ q. omega (arith, h.0, h.1))))
       (counts_room _ _ _)
 
   -- an atomic read
-  read-room : (a : Name) → SameRoom m (read_atomic m i a)
+  read_room : (a : Name) → SameRoom m (read_atomic m i a)
   unfolding read_atomic met
-  read-room a = row_room m i (met m i a) l (λ e g. join_else _ _ _ e g)
+  read_room a = row_room m i (met m i a) l (λ e g. join_else _ _ _ e g)
 
   -- an atomic write of a cell that there is
-  write-room : (a : Name) (x : ℕ) → Known m.shape a → SameRoom m (write_atomic m i a x)
+  write_room : (a : Name) (x : ℕ) → Known m.shape a → SameRoom m (write_atomic m i a x)
   unfolding write_atomic read_atomic told with_row cells_of
-  write-room a x h =
+  write_room a x h =
       let n = with_row m i (met m i a) in
       let same = atomics_same m n refl refl refl refl a in
-      room_then (read-room a) (atomic_room n a _ h (λ e g. rw same (join_else _ _ _ e g)))
+      room_then (read_room a) (atomic_room n a _ h (λ e g. rw same (join_else _ _ _ e g)))
 
   -- a swap, won or lost
-  swap-room : (a : Name) (old new : ℕ) → Known m.shape a → SameRoom m (swapped_of m i a old new).machine
+  swap_room : (a : Name) (old new : ℕ) → Known m.shape a → SameRoom m (swapped_of m i a old new).machine
   unfolding swapped_of
-  swap-room a old new h = go (eqb (atomic_at m a).value old)
+  swap_room a old new h = go (eqb (atomic_at m a).value old)
     where
       go : (b : Bool) → SameRoom m (swap_if b m i a new).machine
-      go true = write-room a new h
-      go false = read-room a
+      go true = write_room a new h
+      go false = read_room a
 
   -- the table of the two calls, where each rank's slot is one of the machine's
-  resumed-room : ((k : ℕ) → Known m.shape (status_name m k)) → (p : Place) (v : ℕ) → SameRoom m (resumed m i p v).machine
+  resumed_room : ((k : ℕ) → Known m.shape (status_name m k)) → (p : Place) (v : ℕ) → SameRoom m (resumed m i p v).machine
   unfolding resumed looks swaps closes
-  resumed-room slot Idle v = placed-room Idle (room_same m)
-  resumed-room slot (PutStatus k x) v = goes-on-room _ (PutSwap k x) No (read-room (status_name m k))
-  resumed-room slot (PutSwap k x) v = goes-on-room _ (PutWrite k x) No (swap-room Head k (next_rank k) tt)
-  resumed-room slot (PutWrite k x) v = placed-room (PutPublish k) (room_same m)
-  resumed-room slot (PutPublish k) v = placed-room Idle (write-room (status_name m k) _ (slot k))
-  resumed-room slot (TakeStatus k) v = goes-on-room _ (TakeSwap k) None (read-room (status_name m k))
-  resumed-room slot (TakeSwap k) v = goes-on-room _ (TakeRead k) None (swap-room Tail k (next_rank k) tt)
-  resumed-room slot (TakeRead k) v = placed-room (TakeFree k v) (room_same m)
-  resumed-room slot (TakeFree k x) v = placed-room Idle (write-room (status_name m k) _ (slot k))
+  resumed_room slot Idle v = placed_room Idle (room_same m)
+  resumed_room slot (PutStatus k x) v = goes_on_room _ (PutSwap k x) No (read_room (status_name m k))
+  resumed_room slot (PutSwap k x) v = goes_on_room _ (PutWrite k x) No (swap_room Head k (next_rank k) tt)
+  resumed_room slot (PutWrite k x) v = placed_room (PutPublish k) (room_same m)
+  resumed_room slot (PutPublish k) v = placed_room Idle (write_room (status_name m k) _ (slot k))
+  resumed_room slot (TakeStatus k) v = goes_on_room _ (TakeSwap k) None (read_room (status_name m k))
+  resumed_room slot (TakeSwap k) v = goes_on_room _ (TakeRead k) None (swap_room Tail k (next_rank k) tt)
+  resumed_room slot (TakeRead k) v = placed_room (TakeFree k v) (room_same m)
+  resumed_room slot (TakeFree k x) v = placed_room Idle (write_room (status_name m k) _ (slot k))
 
   -- what each verb does, where the flag that it names is one of the machine's
-  acted-room : ((k : ℕ) → Known m.shape (status_name m k)) → (x : Verb) (v : ℕ) → named m.shape x ≡ true
+  acted_room : ((k : ℕ) → Known m.shape (status_name m k)) → (x : Verb) (v : ℕ) → named m.shape x ≡ true
       → SameRoom m (acted m i x v).machine
   unfolding acted
-  acted-room slot (Get c t) v e = placed-room Idle (room_same m)
-  acted-room slot (Set c x t) v e = placed-room Idle (room_same m)
-  acted-room slot (Load f) v e = placed-room Idle (read-room (Flag (f - 1)))
-  acted-room slot (Store f x) v e = placed-room Idle (write-room (Flag (f - 1)) x (flag_in m f e))
-  acted-room slot (Swap f old new) v e = placed-room Idle (swap-room (Flag (f - 1)) old new (flag_in m f e))
-  acted-room slot (Put x) v e = placed-room (PutStatus m.head.value x) (read-room Head)
-  acted-room slot Take v e = placed-room (TakeStatus m.tail.value) (read-room Tail)
-  acted-room slot Go v e = resumed-room slot (place m i) v
-  acted-room slot (GoAt t) v e = resumed-room slot (place m i) v
+  acted_room slot (Get c t) v e = placed_room Idle (room_same m)
+  acted_room slot (Set c x t) v e = placed_room Idle (room_same m)
+  acted_room slot (Load f) v e = placed_room Idle (read_room (Flag (f - 1)))
+  acted_room slot (Store f x) v e = placed_room Idle (write_room (Flag (f - 1)) x (flag_in m f e))
+  acted_room slot (Swap f old new) v e = placed_room Idle (swap_room (Flag (f - 1)) old new (flag_in m f e))
+  acted_room slot (Put x) v e = placed_room (PutStatus m.head.value x) (read_room Head)
+  acted_room slot Take v e = placed_room (TakeStatus m.tail.value) (read_room Tail)
+  acted_room slot Go v e = resumed_room slot (place m i) v
+  acted_room slot (GoAt t) v e = resumed_room slot (place m i) v
 
 -- what a taken step leaves
 taken_room : (m : Machine) (ws : List Write) (s : Step) → Fits m.steps m ws
@@ -217,11 +217,11 @@ taken_room m ws s fits t =
     let i = s.thread - 1 in
     let a = asked m s in
     let l : i < m.shape.threads = omega (arith, t.thread) in
-    let done = accessed-room m i l a (access-fits _ m ws fits s.verb (place m i) (fits.places i l) t.names t.range) in
+    let done = accessed_room m i l a (access_fits _ m ws fits s.verb (place m i) (fits.places i l) t.names t.range) in
     let here : i < (accessed m i a).shape.threads = rw (accessed_shape m i a) l in
     let known : named (accessed m i a).shape s.verb ≡ true = rw (accessed_shape m i a) t.names in
     let slot : (k : ℕ) → Known (accessed m i a).shape (status_name (accessed m i a) k) = rw (accessed_shape m i a) (slot_in _ m ws fits) in
-    room_then (room_then done (acted-room (accessed m i a) i here slot s.verb _ known)) (counts_room _ _ _)
+    room_then (room_then done (acted_room (accessed m i a) i here slot s.verb _ known)) (counts_room _ _ _)
 
 -- what a step leaves that is decided by a number
 decided_room : (r : ℕ) (m : Machine) (s : Step) (a : Access) (f : Found) → (r ≡ 0 → SameRoom m (taken_by m s a f).machine)

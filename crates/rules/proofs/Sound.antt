@@ -11,10 +11,10 @@ use Rattle.rules.proofs.Whole.{whole_kept}
 use Rattle.rules.specs.Step.{step_of}
 use Rattle.rules.proofs.Moves.{by_moves}
 use Rattle.rules.proofs.Listed.{ListedAt}
-use Rattle.rules.proofs.Owed.{Owed, list-moves}
-use Rattle.rules.proofs.Recalled.{Recalled, recall-moves}
-use Rattle.rules.proofs.Remembered.{Remembered, memory-moves}
-use Rattle.rules.proofs.Ringed.{Ringed, ring-moves}
+use Rattle.rules.proofs.Owed.{Owed, list_moves}
+use Rattle.rules.proofs.Recalled.{Recalled, recall_moves}
+use Rattle.rules.proofs.Remembered.{Remembered, memory_moves}
+use Rattle.rules.proofs.Ringed.{Ringed, ring_moves}
 use Rattle.rules.specs.Log.{Entry, Point, Seen, thread_of, entry_of, next, through, under, heard, seen}
 use Rattle.rules.specs.Queue.{refused, Right, Each}
 use Rattle.standing.proofs.Bounds.{Bounds, bounds}
@@ -83,7 +83,7 @@ module _ (p : Point) (S : Sound p) (s : Step) where
       by_moves m ws s
       (λ v a k us. Owed m.shape.slots (cells_of m) n (row k i) (n.calls i) v a × ListedAt m.shape.slots k (after v a (row k i)))
       S.whole (λ k. ((refused (omega arith), λ e. absurd (omega arith)), S.list))
-      (λ _. list-moves m ws n i S.whole B S.ring S.memory S.list)
+      (λ _. list_moves m ws n i S.whole B S.ring S.memory S.list)
 
   pub kept : Sound (next p s)
   unfolding next entry_of seen cells_of Each
@@ -96,15 +96,15 @@ module _ (p : Point) (S : Sound p) (s : Step) where
         whole = whole_kept m ws s S.whole;
         stand = standing_kept m ws s S.stand;
         ring = subst (λ (x : Shape). Ringed x.slots o) (sym r.shape)
-            (by_moves m ws s (λ v a n xs. Ringed m.shape.slots n) S.whole (λ k. S.ring) (λ _. ring-moves m ws i S.ring));
+            (by_moves m ws s (λ v a n xs. Ringed m.shape.slots n) S.whole (λ k. S.ring) (λ _. ring_moves m ws i S.ring));
         memory = subst (λ (x : Shape). MemoryBy x (first_of o) o us now) (sym r.shape)
             (subst (λ (x : ℕ → ℕ). MemoryBy m.shape x o us now) (sym f)
             (by_moves m ws s (λ v a k xs. MemoryBy m.shape (first_of m) k xs (after v a (row k i))) S.whole (λ k. S.memory)
-            (λ _. memory-moves m ws n i S.whole B S.ring S.memory S.list)));
+            (λ _. memory_moves m ws n i S.whole B S.ring S.memory S.list)));
         list = subst (λ (x : Shape). ListedAt x.slots o now) (sym r.shape) listed.1;
         recall = subst (λ (x : ℕ). Recalled x (first_of o) o us) (sym (cells r.shape))
             (subst (λ (x : ℕ → ℕ). Recalled (cells_of m) x o us) (sym f)
-            (by_moves m ws s (λ v a n xs. Recalled (cells_of m) (first_of m) n xs) S.whole (λ k. S.recall) (λ _. recall-moves m ws i S.whole B S.recall)));
+            (by_moves m ws s (λ v a n xs. Recalled (cells_of m) (first_of m) n xs) S.whole (λ k. S.recall) (λ _. recall_moves m ws i S.whole B S.recall)));
         right = subst (λ (x : Shape). RightBy x (entry_of s (step_of m ws s) ∷ p.log)) (sym r.shape)
             (record { says = listed.0.0; by_thread = taken_thread m ws s; in_turn = listed.0.1 }, S.right);
         spare = λ j l. let h : m.shape.threads ≤ j = subst (λ (x : Shape). x.threads ≤ j) r.shape l in (r.threads j h).1 ∙ S.spare j h;

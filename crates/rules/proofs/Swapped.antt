@@ -19,20 +19,20 @@ module _ (c h t : ℕ) (st : ℕ → ℕ) (at : ℕ → Stage) (I : Ring c h t s
   unfolding next_rank free_status full_status lapped
   room = go (ℕ_discrete h (t + c))
     where
-      no-form : h ≡ t + c → Form c h st at t → ⊥
-      no-form e (is_filling a d x o) = omega (arith, saw, one_slot c st h t e)
-      no-form e (is_full a d) = omega (arith, saw, one_slot c st h t e)
-      no-form e (is_emptying a k d f x o) = omega (arith, I.some)
-      no-form e (is_free a d) = omega (arith, I.some)
+      no_form : h ≡ t + c → Form c h st at t → ⊥
+      no_form e (is_filling a d x o) = omega (arith, saw, one_slot c st h t e)
+      no_form e (is_full a d) = omega (arith, saw, one_slot c st h t e)
+      no_form e (is_emptying a k d f x o) = omega (arith, I.some)
+      no_form e (is_free a d) = omega (arith, I.some)
 
       go : Dec (h ≡ t + c) → h < t + c
-      go (yes e) = absurd (no-form e (I.forms t (omega arith) (omega (arith, I.some))))
+      go (yes e) = absurd (no_form e (I.forms t (omega arith) (omega (arith, I.some))))
       go (no n) = omega (arith, I.high)
 
   -- the slot is free
-  pub free-now : st (slot_of c h) ≡ free_status h
+  pub free_now : st (slot_of c h) ≡ free_status h
   unfolding next_rank free_status full_status lapped
-  free-now = go (I.forms h I.low room)
+  free_now = go (I.forms h I.low room)
     where
       go : Form c h st at h → st (slot_of c h) ≡ free_status h
       go (is_filling a d x o) = omega arith
@@ -40,16 +40,16 @@ module _ (c h t : ℕ) (st : ℕ → ℕ) (at : ℕ → Stage) (I : Ring c h t s
       go (is_emptying a k d e x o) = omega (arith, saw, I.some)
       go (is_free a d) = d
 
-  pub win-head : (w : ℕ) (at' : ℕ → Stage) → Updated at i (filling h w) at' → Ring c (next_rank h) t st at'
+  pub win_head : (w : ℕ) (at' : ℕ → Stage) → Updated at i (filling h w) at' → Ring c (next_rank h) t st at'
   unfolding next_rank free_status full_status lapped
-  win-head w at' u = record {
+  win_head w at' u = record {
     some = I.some;
     low = omega (arith, I.low);
     high = omega (arith, room);
     forms = λ j x y. go j (ℕ_discrete j h) (I.forms j x y);
     seen = λ x. at_each u (Saw c st) x (λ _. tt) (λ _. I.seen x);
     putting = holders at i (filling h w) at' u fills _
-        (λ k o. subst (Putting c (next_rank h) t st) o (record { from = I.low; to = omega arith; is = free-now }))
+        (λ k o. subst (Putting c (next_rank h) t st) o (record { from = I.low; to = omega arith; is = free_now }))
         (λ x k n o. let p = I.putting x k o in record { from = p.from; to = omega (arith, p.to); is = p.is });
     taking = holders at i (filling h w) at' u empties _ (λ k o. absurd o)
         (λ x k n o. let p = I.taking x k o in record { past = p.past; near = near k p; is = p.is });
@@ -66,7 +66,7 @@ module _ (c h t : ℕ) (st : ℕ → ℕ) (at : ℕ → Stage) (I : Ring c h t s
 
       go : (j : ℕ) → Dec (j ≡ h) → Form c h st at j → Form c (next_rank h) st at' j
       go j (yes e) f =
-          is_filling (omega arith) (subst (λ (x : ℕ). st (slot_of c x) ≡ free_status x) (sym e) free-now) i
+          is_filling (omega arith) (subst (λ (x : ℕ). st (slot_of c x) ≡ free_status x) (sym e) free_now) i
           (subst (λ (x : Stage). fills x j) (sym u.here) (sym e))
       go j (no n) (is_filling a b x o) =
           is_filling (omega arith) b x
@@ -80,9 +80,9 @@ module _ (c h t : ℕ) (st : ℕ → ℕ) (at : ℕ → Stage) (I : Ring c h t s
 -- The tail swap, won.
 module _ (c h t : ℕ) (st : ℕ → ℕ) (at : ℕ → Stage) (I : Ring c h t st at) (i : ℕ) (was : at i ≡ saw_full t) where
   -- the slot is full
-  pub full-now : (t < h) × (st (slot_of c t) ≡ full_status t)
+  pub full_now : (t < h) × (st (slot_of c t) ≡ full_status t)
   unfolding next_rank free_status full_status lapped
-  full-now = go (subst (Saw c st) was (I.seen i)) (I.forms t (omega arith) (omega (arith, I.some)))
+  full_now = go (subst (Saw c st) was (I.seen i)) (I.forms t (omega arith) (omega (arith, I.some)))
     where
       go : full_status t ≤ st (slot_of c t) → Form c h st at t → (t < h) × (st (slot_of c t) ≡ full_status t)
       go s (is_filling a d x o) = omega arith
@@ -90,18 +90,18 @@ module _ (c h t : ℕ) (st : ℕ → ℕ) (at : ℕ → Stage) (I : Ring c h t s
       go s (is_emptying a k d e x o) = omega (arith, I.some)
       go s (is_free a d) = omega arith
 
-  pub win-tail : (at' : ℕ → Stage) → Updated at i (emptying t) at' → Ring c h (next_rank t) st at'
+  pub win_tail : (at' : ℕ → Stage) → Updated at i (emptying t) at' → Ring c h (next_rank t) st at'
   unfolding next_rank free_status full_status lapped
-  win-tail at' u = record {
+  win_tail at' u = record {
     some = I.some;
-    low = omega (arith, full-now.0);
+    low = omega (arith, full_now.0);
     high = omega (arith, I.high);
     forms = λ j x y. go j x y (ℕ_discrete j (t + c));
     seen = λ x. at_each u (Saw c st) x (λ _. tt) (λ _. I.seen x);
     putting = holders at i (emptying t) at' u fills _ (λ k o. absurd o)
         (λ x k n o. let p = I.putting x k o in record { from = later k p; to = p.to; is = p.is });
     taking = holders at i (emptying t) at' u empties _
-        (λ k o. subst (Taking c h (next_rank t) st) o (record { past = omega arith; near = I.high; is = full-now.1 }))
+        (λ k o. subst (Taking c h (next_rank t) st) o (record { past = omega arith; near = I.high; is = full_now.1 }))
         (λ x k n o. let p = I.taking x k o in record { past = omega (arith, p.past); near = p.near; is = p.is });
     put_alone = alone at i (emptying t) at' u fills I.put_alone (λ k x o _. absurd o);
     take_alone = alone at i (emptying t) at' u empties I.take_alone (λ k x o p. inr (omega (arith, o, (I.taking x k p).past)));
@@ -111,7 +111,7 @@ module _ (c h t : ℕ) (st : ℕ → ℕ) (at : ℕ → Stage) (I : Ring c h t s
       later k p = go (ℕ_discrete k t)
         where
           go : Dec (k ≡ t) → next_rank t ≤ k
-          go (yes e) = omega (arith, full-now.1, p, ap (λ (x : ℕ). st (slot_of c x)) e)
+          go (yes e) = omega (arith, full_now.1, p, ap (λ (x : ℕ). st (slot_of c x)) e)
           go (no n) = omega (arith, p)
 
       old : (j : ℕ) → Form c h st at j → Form c h st at' j
@@ -124,7 +124,7 @@ module _ (c h t : ℕ) (st : ℕ → ℕ) (at : ℕ → Stage) (I : Ring c h t s
 
       go : (j : ℕ) → next_rank t ≤ j → j < next_rank t + c → Dec (j ≡ t + c) → Form c h st at' j
       go j a b (yes e) =
-          is_emptying (omega (arith, I.high)) t (sym e) (one_slot c st j t e ∙ full-now.1) i (subst (λ (x : Stage). empties x t) (sym u.here) refl)
+          is_emptying (omega (arith, I.high)) t (sym e) (one_slot c st j t e ∙ full_now.1) i (subst (λ (x : Stage). empties x t) (sym u.here) refl)
       go j a b (no n) = old j (I.forms j (omega arith) (omega arith))
 
 -- the same where the rank is the one that the thread has noted
@@ -132,10 +132,10 @@ pub win_head_at : (c h t : ℕ) (st : ℕ → ℕ) (at : ℕ → Stage) → Ring
     → at i ≡ saw_free k → Updated at i (filling k w) at' → Ring c (next_rank k) t st at'
 win_head_at c h t st at I i at' k w e =
     subst (λ (k : ℕ). at i ≡ saw_free k → Updated at i (filling k w) at' → Ring c (next_rank k) t st at') e
-    (λ was u. win-head c h t st at I i was w at' u)
+    (λ was u. win_head c h t st at I i was w at' u)
 
 pub win_tail_at : (c h t : ℕ) (st : ℕ → ℕ) (at : ℕ → Stage) → Ring c h t st at → (i : ℕ) (at' : ℕ → Stage) (k : ℕ) → t ≡ k
     → at i ≡ saw_full k → Updated at i (emptying k) at' → Ring c h (next_rank k) st at'
 win_tail_at c h t st at I i at' k e =
     subst (λ (k : ℕ). at i ≡ saw_full k → Updated at i (emptying k) at' → Ring c h (next_rank k) st at') e
-    (λ was u. win-tail c h t st at I i was at' u)
+    (λ was u. win_tail c h t st at I i was at' u)

@@ -13,7 +13,7 @@ use Rattle.rules.specs.Access.{slot_cell, stamped_at, access_of, found_by}
 use Rattle.rules.specs.Step.{asked, refusal_of, step_of}
 use Rattle.rules.proofs.Ranks.{slot_in}
 use Rattle.rules.proofs.Recalled.{Recalled}
-use Rattle.refusal.proofs.Passed.{among_some, others, early, past-early}
+use Rattle.refusal.proofs.Passed.{among_some, others, early, past_early}
 use Rattle.standing.proofs.Bounds.{Bounds}
 use Rattle.standing.specs.Stands.{stands}
 use Rattle.state.specs.State.{cells_of, row, place, first_of}
@@ -37,17 +37,17 @@ Ranged k (Reads c t) = (1 ≤ c) × (c ≤ k)
 Ranged k (Writes c t v) = (1 ≤ c) × (c ≤ k)
 
 module _ (m : Machine) (B : Bounds m.shape) where
-  stamped-ranged : (p : Place) (t : ℕ) → Ranged (cells_of m) (stamped_at m.shape p t)
+  stamped_ranged : (p : Place) (t : ℕ) → Ranged (cells_of m) (stamped_at m.shape p t)
   unfolding cells_of slot_cell
-  stamped-ranged Idle t = tt
-  stamped-ranged (PutStatus h w) t = tt
-  stamped-ranged (PutSwap h w) t = tt
-  stamped-ranged (PutWrite h w) t = omega (arith, slot_in m.shape.slots h B.some_slot)
-  stamped-ranged (PutPublish h) t = tt
-  stamped-ranged (TakeStatus k) t = tt
-  stamped-ranged (TakeSwap k) t = tt
-  stamped-ranged (TakeRead k) t = omega (arith, slot_in m.shape.slots k B.some_slot)
-  stamped-ranged (TakeFree k w) t = tt
+  stamped_ranged Idle t = tt
+  stamped_ranged (PutStatus h w) t = tt
+  stamped_ranged (PutSwap h w) t = tt
+  stamped_ranged (PutWrite h w) t = omega (arith, slot_in m.shape.slots h B.some_slot)
+  stamped_ranged (PutPublish h) t = tt
+  stamped_ranged (TakeStatus k) t = tt
+  stamped_ranged (TakeSwap k) t = tt
+  stamped_ranged (TakeRead k) t = omega (arith, slot_in m.shape.slots k B.some_slot)
+  stamped_ranged (TakeFree k w) t = tt
 
   pub ranged : (v : Verb) (p : Place) → named m.shape v ≡ true → Ranged (cells_of m) (access_of m.shape v p)
   unfolding cells_of
@@ -59,7 +59,7 @@ module _ (m : Machine) (B : Bounds m.shape) where
   ranged (Put w) p e = tt
   ranged Take p e = tt
   ranged Go p e = tt
-  ranged (GoAt t) p e = stamped-ranged p t
+  ranged (GoAt t) p e = stamped_ranged p t
 
   module _ (ws : List Write) (K : Recalled (cells_of m) (first_of m) m ws) (s : Step) (c : ℕ)
       (e : asked m s ≡ Reads c (stamp_of (row m (s.thread - 1)) (c - 1))) where
@@ -75,7 +75,7 @@ module _ (m : Machine) (B : Bounds m.shape) where
         → number_of (step_of m ws s).done.answer ≢ r
     unfolding refusal_of
     never r p n h =
-        let l = past-early (stands m ws) m (length ws) s (asked m s) (found_by m ws (asked m s)) r n (sym (numbered m ws s) ∙ h) in
+        let l = past_early (stands m ws) m (length ws) s (asked m s) (found_by m ws (asked m s)) r n (sym (numbered m ws s) ∙ h) in
         let v = stamp_of (row m (s.thread - 1)) (c - 1) in
         let z : 0 ≡ r = rw (e, le-ltb v v (omega arith), rw e at (there l.0.names)) at l.1 in
         omega arith

@@ -86,11 +86,11 @@ goes_on_whole false m i p lost w = place_whole m i Idle w
 
 module _ (m : Machine) (w : Whole m) (i : ℕ) where
   -- a plain access
-  accessed-whole : (a : Access) → Whole (accessed m i a)
+  accessed_whole : (a : Access) → Whole (accessed m i a)
   unfolding accessed with_stamp
-  accessed-whole NoAccess = w
-  accessed-whole (Reads c t) = w
-  accessed-whole (Writes c t v) =
+  accessed_whole NoAccess = w
+  accessed_whole (Reads c t) = w
+  accessed_whole (Writes c t v) =
       counts_whole (row_whole m i (with_stamp (row m i) (c - 1) t) w (set_length (row m i).at (c - 1) t ∙ w.rows i))
 
   -- an atomic read
@@ -99,50 +99,50 @@ module _ (m : Machine) (w : Whole m) (i : ℕ) where
   read_whole a = row_whole m i (met m i a) w (join_length _ (row m i).at _ ∙ w.rows i)
 
   -- an atomic write
-  write-whole : (a : Name) (x : ℕ) → Whole (write_atomic m i a x)
+  write_whole : (a : Name) (x : ℕ) → Whole (write_atomic m i a x)
   unfolding write_atomic read_atomic told joined
-  write-whole a x = atomic_whole (with_row m i (met m i a)) a _ (read_whole a) (join_length _ (atomic_at m a).view.at _ ∙ w.seen a)
+  write_whole a x = atomic_whole (with_row m i (met m i a)) a _ (read_whole a) (join_length _ (atomic_at m a).view.at _ ∙ w.seen a)
 
   -- a swap, won or lost
-  swap-whole : (a : Name) (old new : ℕ) → Whole (swapped_of m i a old new).machine
+  swap_whole : (a : Name) (old new : ℕ) → Whole (swapped_of m i a old new).machine
   unfolding swapped_of
-  swap-whole a old new = go (eqb (atomic_at m a).value old)
+  swap_whole a old new = go (eqb (atomic_at m a).value old)
     where
       go : (b : Bool) → Whole (swap_if b m i a new).machine
-      go true = write-whole a new
+      go true = write_whole a new
       go false = read_whole a
 
   -- the table of the two calls
-  resumed-whole : (p : Place) (v : ℕ) → Whole (resumed m i p v).machine
+  resumed_whole : (p : Place) (v : ℕ) → Whole (resumed m i p v).machine
   unfolding resumed looks swaps closes
-  resumed-whole Idle v = place_whole m i Idle w
-  resumed-whole (PutStatus k x) v = goes_on_whole _ _ i _ No (read_whole (status_name m k))
-  resumed-whole (PutSwap k x) v = goes_on_whole _ _ i _ No (swap-whole Head k (next_rank k))
-  resumed-whole (PutWrite k x) v = place_whole m i (PutPublish k) w
-  resumed-whole (PutPublish k) v = place_whole _ i Idle (write-whole (status_name m k) _)
-  resumed-whole (TakeStatus k) v = goes_on_whole _ _ i _ None (read_whole (status_name m k))
-  resumed-whole (TakeSwap k) v = goes_on_whole _ _ i _ None (swap-whole Tail k (next_rank k))
-  resumed-whole (TakeRead k) v = place_whole m i (TakeFree k v) w
-  resumed-whole (TakeFree k x) v = place_whole _ i Idle (write-whole (status_name m k) _)
+  resumed_whole Idle v = place_whole m i Idle w
+  resumed_whole (PutStatus k x) v = goes_on_whole _ _ i _ No (read_whole (status_name m k))
+  resumed_whole (PutSwap k x) v = goes_on_whole _ _ i _ No (swap_whole Head k (next_rank k))
+  resumed_whole (PutWrite k x) v = place_whole m i (PutPublish k) w
+  resumed_whole (PutPublish k) v = place_whole _ i Idle (write_whole (status_name m k) _)
+  resumed_whole (TakeStatus k) v = goes_on_whole _ _ i _ None (read_whole (status_name m k))
+  resumed_whole (TakeSwap k) v = goes_on_whole _ _ i _ None (swap_whole Tail k (next_rank k))
+  resumed_whole (TakeRead k) v = place_whole m i (TakeFree k v) w
+  resumed_whole (TakeFree k x) v = place_whole _ i Idle (write_whole (status_name m k) _)
 
   -- what each verb does
-  acted-whole : (x : Verb) (v : ℕ) → Whole (acted m i x v).machine
+  acted_whole : (x : Verb) (v : ℕ) → Whole (acted m i x v).machine
   unfolding acted
-  acted-whole (Get c t) v = place_whole m i Idle w
-  acted-whole (Set c x t) v = place_whole m i Idle w
-  acted-whole (Load f) v = place_whole _ i Idle (read_whole (Flag (f - 1)))
-  acted-whole (Store f x) v = place_whole _ i Idle (write-whole (Flag (f - 1)) x)
-  acted-whole (Swap f old new) v = place_whole _ i Idle (swap-whole (Flag (f - 1)) old new)
-  acted-whole (Put x) v = place_whole _ i _ (read_whole Head)
-  acted-whole Take v = place_whole _ i _ (read_whole Tail)
-  acted-whole Go v = resumed-whole (place m i) v
-  acted-whole (GoAt t) v = resumed-whole (place m i) v
+  acted_whole (Get c t) v = place_whole m i Idle w
+  acted_whole (Set c x t) v = place_whole m i Idle w
+  acted_whole (Load f) v = place_whole _ i Idle (read_whole (Flag (f - 1)))
+  acted_whole (Store f x) v = place_whole _ i Idle (write_whole (Flag (f - 1)) x)
+  acted_whole (Swap f old new) v = place_whole _ i Idle (swap_whole (Flag (f - 1)) old new)
+  acted_whole (Put x) v = place_whole _ i _ (read_whole Head)
+  acted_whole Take v = place_whole _ i _ (read_whole Tail)
+  acted_whole Go v = resumed_whole (place m i) v
+  acted_whole (GoAt t) v = resumed_whole (place m i) v
 
 -- what a step leaves that is decided by a number
 decided_whole : (r : ℕ) (m : Machine) (s : Step) (a : Access) (f : Found) → Whole m → Whole (decided_by r m s a f).done.machine
 unfolding taken_by
 decided_whole zero m s a f w =
-    counts_whole (acted-whole _ (accessed-whole m w (s.thread - 1) a) (s.thread - 1) s.verb (value_of f))
+    counts_whole (acted_whole _ (accessed_whole m w (s.thread - 1) a) (s.thread - 1) s.verb (value_of f))
 decided_whole (suc r) m s a f w = w
 
 -- A step leaves a machine as long as its arrays.

@@ -5,7 +5,7 @@ use mathlib.Core.Bool.{Bool, true, false, false≢true}
 use mathlib.Core.List.{List, [], map}
 use mathlib.Core.Path.{◌∙◌, ◌≡◌, ap, refl, sym}
 use native.Mathlib.Omega.{arith}
-use Rattle.decision.proofs.Known.{as-known}
+use Rattle.decision.proofs.Known.{as_known}
 use Rattle.decision.specs.Known.{step_by}
 use Rattle.number.specs.declared.Written.{Written}
 use Rattle.number.specs.declared.Written.TheVariants.{Next}
@@ -82,9 +82,9 @@ Nearer text m g r ws out x before = Way text m r ws out x before × (length (ask
 
 module _ {text : List ℕ} {x : Run} {before : List ℕ} where
   -- before the first step
-  pub way-begins : (s : Section) {m : Machine} {ws : List Write} {g : Going} → g ≡ begun text s → x ≡ ran m ws (steps_at text s)
+  pub way_begins : (s : Section) {m : Machine} {ws : List Write} {g : Going} → g ≡ begun text s → x ≡ ran m ws (steps_at text s)
       → Way text m g ws before x before
-  way-begins s {m} {ws} {g} b e =
+  way_begins s {m} {ws} {g} b e =
       let all : left_of text m g ws ≡ x
       = left_section text m g ws s false (ap (λ (k : Going). k.ahead) b) (ap (λ (k : Going). k.refused) b) ∙ sym e in
       record {
@@ -99,29 +99,29 @@ module _ {text : List ℕ} {x : Run} {before : List ℕ} where
     s = g.ahead.asked.step
 
     o : outcome d ws' ≡ step_of m ws s
-    o = b ∙ as-known m ws s g.ahead.asked.known (w.stood e)
+    o = b ∙ as_known m ws s g.ahead.asked.known (w.stood e)
 
     -- a state from which a step was taken stands, and so does the one after
-    stood-after : number_of d.answer ≡ 0 → stands d.machine ws' ≡ true
+    stood_after : number_of d.answer ≡ 0 → stands d.machine ws' ≡ true
     unfolding refusal_of
-    stood-after z =
+    stood_after z =
         let p = (passed _ _ _ _ _ _ (sym (numbered m ws s) ∙ ap (λ (u : Outcome). number_of u.done.answer) (sym o) ∙ z)).0 in
         ap (λ (u : Outcome). stands u.done.machine u.writes) o ∙ standing_kept m ws s p.stands
 
     -- before a step that is taken: its answer, and the steps after it
-    left-taken : number_of d.answer ≡ 0
+    left_taken : number_of d.answer ≡ 0
         → left_of text m g ws ≡ tells (record { thread = s.thread; answer = d.answer }) (ran d.machine ws' (steps_at text g.ahead.rest))
     unfolding ran
-    left-taken z = rw (e, ← o, z)
+    left_taken z = rw (e, ← o, z)
 
     -- before a step that is refused: nothing more
-    left-refused : (n : ℕ) → number_of d.answer ≡ suc n → left_of text m g ws ≡ stops m ws (suc n)
+    left_refused : (n : ℕ) → number_of d.answer ≡ suc n → left_of text m g ws ≡ stops m ws (suc n)
     unfolding ran
-    left-refused n z = rw (e, ← o, z)
+    left_refused n z = rw (e, ← o, z)
 
     -- the step that was asked is taken
-    way-taken : number_of d.answer ≡ 0 → Nearer text d.machine g r ws' out' x before
-    way-taken z =
+    way_taken : number_of d.answer ≡ 0 → Nearer text d.machine g r ws' out' x before
+    way_taken z =
         let q = rw z at h in
         let rest = g.ahead.rest in
         let ahead = ap (λ (k : Going). k.ahead) q.0 in
@@ -129,37 +129,37 @@ module _ {text : List ℕ} {x : Run} {before : List ℕ} where
         = left_section text d.machine r ws' rest true ahead (ap (λ (k : Going). k.refused) q.0) in
         let put : page r.upto out' ≡ page (put_next out g.upto (line_of g d.answer)) (placed_next out g.upto (line_of g d.answer))
         = λ i. page (q.0 i).upto (q.1 i) in (
-          record { comes = rw (is, put) (told (rw (left-taken z) at w.comes)); stood = λ _ _. stood-after z },
+          record { comes = rw (is, put) (told (rw (left_taken z) at w.comes)); stood = λ _ _. stood_after z },
           rw (ahead, asks_ahead text rest true, e) (omega arith),
         )
 
     -- it is refused: the same state and list, and nothing more
-    way-refused : (n : ℕ) → number_of d.answer ≡ suc n → Nearer text d.machine g r ws' out' x before
-    way-refused n z =
+    way_refused : (n : ℕ) → number_of d.answer ≡ suc n → Nearer text d.machine g r ws' out' x before
+    way_refused n z =
         let q = rw z at h in
         let k = refused_keeps m ws s (rw (← o, z) (omega arith)) in
         let off = ap (λ (j : Going). j.ahead.on) q.0 in
         let is : left_of text d.machine r ws' ≡ left_of text m g ws
         = left_none text d.machine r ws' off
         ∙ (λ i. stops ((ap (λ (u : Outcome). u.done.machine) o ∙ k.0) i) ((ap (λ (u : Outcome). u.writes) o ∙ k.1) i) (q.0 i).refused)
-        ∙ sym (left-refused n z) in
+        ∙ sym (left_refused n z) in
         let put : page r.upto out' ≡ page g.upto out = λ i. page (q.0 i).upto (q.1 i) in (
           record { comes = rw (is, put) w.comes; stood = λ on _. absurd (false≢true (sym off ∙ on)) },
           rw (off, e) (omega arith),
         )
 
     -- it is done
-    pub way-goes : Nearer text d.machine g r ws' out' x before
-    way-goes = by_number (number_of d.answer) refl
+    pub way_goes : Nearer text d.machine g r ws' out' x before
+    way_goes = by_number (number_of d.answer) refl
       where
         by_number : (k : ℕ) → number_of d.answer ≡ k → Nearer text d.machine g r ws' out' x before
-        by_number zero z = way-taken z
-        by_number (suc k) z = way-refused k z
+        by_number zero z = way_taken z
+        by_number (suc k) z = way_refused k z
 
   -- no step is ahead
-  pub way-ends : {m : Machine} {g : Going} {ws : List Write} {out : List ℕ} → Way text m g ws out x before → g.ahead.on ≡ false
+  pub way_ends : {m : Machine} {g : Going} {ws : List Write} {out : List ℕ} → Way text m g ws out x before → g.ahead.on ≡ false
       → Ends x before (ended_of m g ws) out
   unfolding put_lines
-  way-ends {m} {g} {ws} w e =
+  way_ends {m} {g} {ws} w e =
       let o = rw (left_none text m g ws e) at w.comes in
       record { machine = o.machine; refused = o.refused; answers = o.answers; writes = o.writes }

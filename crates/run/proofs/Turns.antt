@@ -52,7 +52,7 @@ use Rattle.state.specs.contracts.Machine as Q
 use Rattle.state.proofs.Machine.TheLaws as Q'
 use Rattle.state.specs.declared.Machine.{Machine}
 use Rattle.asking.specs.contracts.Asked as S
-use Rattle.writes.proofs.Calling.{calls-values, calls-lent}
+use Rattle.writes.proofs.Calling.{calls_values, calls_lent}
 use Rattle.writes.proofs.Lent.{write_vals}
 use Rattle.writes.specs.contracts.Write as T
 use Rattle.writes.proofs.Write.TheLaws as T'
@@ -113,19 +113,19 @@ row_tells : Tells Row (Is Row) (array_vals write_vals)
 row_tells = Array-Tells T.the_row write_vals write_tells 1024
 
 module _ {M : Type 1} {𝓤 : Ura M} (𝓛 : Logic 𝓤) where
-  pub write-makes : Makes 𝓛 T.the_row (Is T.the_row)
-  write-makes = LL.makes T.the_type T'.the_plain 𝓛
+  pub write_makes : Makes 𝓛 T.the_row (Is T.the_row)
+  write_makes = LL.makes T.the_type T'.the_plain 𝓛
 
   pub row_lawful : Lawful 𝓛 Row
   row_lawful = Array-Lawful 𝓛 T.the_row (LL.lawful T.the_type T'.the_laws 𝓛) 1024
 
 -- what a step gave back
 module _ (d : Done) (is-d : Is D.the_row d (done_val d ∷ [])) where
-  pub given-machine : Is Q.the_row d.machine (machine_val d.machine ∷ [])
-  given-machine = (LL.owed D.the_type D'.the_laws d _ is-d).1.0
+  pub given_machine : Is Q.the_row d.machine (machine_val d.machine ∷ [])
+  given_machine = (LL.owed D.the_type D'.the_laws d _ is-d).1.0
 
-  pub given-answer : Is R.the_row d.answer (answer_val d.answer ∷ [])
-  given-answer = (LL.owed D.the_type D'.the_laws d _ is-d).0
+  pub given_answer : Is R.the_row d.answer (answer_val d.answer ∷ [])
+  given_answer = (LL.owed D.the_type D'.the_laws d _ is-d).0
 
 -- the loop's state: the run on its way, the list and the buffer, and what is known of them
 pub record State (t : List ℕ) (x : Run) (os : List ℕ) : Type 0 where
@@ -140,17 +140,17 @@ pub record State (t : List ℕ) (x : Run) (os : List ℕ) : Type 0 where
   pub way : Way t m g ws bs x os
 
 module _ {t : List ℕ} {x : Run} {os : List ℕ} (s : State t x os) where
-  pub is-asked : Is S.the_row s.g.ahead.asked (asked_val s.g.ahead.asked ∷ [])
-  is-asked = (LL.owed A'.the_type A''.the_laws s.g.ahead _ (LL.owed G.the_type G'.the_laws s.g _ s.is_g).0).1.0
+  pub is_asked : Is S.the_row s.g.ahead.asked (asked_val s.g.ahead.asked ∷ [])
+  is_asked = (LL.owed A'.the_type A''.the_laws s.g.ahead _ (LL.owed G.the_type G'.the_laws s.g _ s.is_g).0).1.0
 
   pub many : length s.ws ≡ 1024
   many = s.is_ws.1.0.1
 
-  pub room-w : Room T.the_row (length s.ws)
-  room-w = subst (Room T.the_row) (sym many) (lit< tt, lit< tt)
+  pub room_w : Room T.the_row (length s.ws)
+  room_w = subst (Room T.the_row) (sym many) (lit< tt, lit< tt)
 
-  pub room-b : Room u8 (length os) → Room u8 (length s.bs)
-  room-b = subst (Room u8) (sym s.as_long)
+  pub room_b : Room u8 (length os) → Room u8 (length s.bs)
+  room_b = subst (Room u8) (sym s.as_long)
 
 module _ {M : Type 1} {𝓤 : Ura M} (𝓛 : Logic 𝓤) (mem : Memory → SProp 𝓤) (run : Routine → Fun 𝓤) where
   abbrev pub NoWrites : Contract 𝓤
@@ -191,17 +191,17 @@ module _ {M : Type 1} {𝓤 : Ura M} (𝓛 : Logic 𝓤) (𝓜 : Model 𝓤 𝓛
 module _ {M : Type 1} {𝓤 : Ura M} (𝓛 : Logic 𝓤) (mem : Memory → SProp 𝓤) (run : Routine → Fun 𝓤) where
   open 𝓛 use {A}
 
-  abbrev pub to-no-writes : (NoWrites 𝓛 mem run).Ghost
-  to-no-writes = ((tt, tt, tt, tt, tt), tt)
+  abbrev pub to_no_writes : (NoWrites 𝓛 mem run).Ghost
+  to_no_writes = ((tt, tt, tt, tt, tt), tt)
 
-  goes-no-writes : ent 𝓤 (emp 𝓤) ((NoWrites 𝓛 mem run).pre to-no-writes)
-  goes-no-writes = qed 𝓛 [] ∵ nothing ! $ nothing ! $ join ! $ frame ! $ done !
+  goes_no_writes : ent 𝓤 (emp 𝓤) ((NoWrites 𝓛 mem run).pre to_no_writes)
+  goes_no_writes = qed 𝓛 [] ∵ nothing ! $ nothing ! $ join ! $ frame ! $ done !
 
   abbrev NoWritesEn : List Write → SProp 𝓤
   NoWritesEn r = ensured 𝓛 no_writes.ended (no_writes.clauses 𝓛 mem run) tt tt tt r
 
-  of-no-writes : (r : List Write) → ent 𝓤 (NoWritesEn r) (fact 𝓤 (r ≡ replicate 1024 no_write))
-  of-no-writes r = ex_e 𝓤 _ (λ us. snd∗ 𝓤 (sem 𝓛 (lasts no_writes.ended tt tt us)) (fact 𝓤 (r ≡ replicate 1024 no_write)))
+  of_no_writes : (r : List Write) → ent 𝓤 (NoWritesEn r) (fact 𝓤 (r ≡ replicate 1024 no_write))
+  of_no_writes r = ex_e 𝓤 _ (λ us. snd∗ 𝓤 (sem 𝓛 (lasts no_writes.ended tt tt us)) (fact 𝓤 (r ≡ replicate 1024 no_write)))
 
   -- the text, lent for κ
   module _ (κ : Lft) (s : Share) (x : Bor (List ℕ)) where
@@ -209,8 +209,8 @@ module _ {M : Type 1} {𝓤 : Ura M} (𝓛 : Logic 𝓤) (mem : Memory → SProp
     Text = (ShrSlice (named 0) κ u8).own_val x (slice_val x.ref_ptr (length x.now) ∷ [])
 
     module _ (n : Section) where
-      abbrev pub to-begin : (Begin 𝓛 mem run).Ghost
-      to-begin = (
+      abbrev pub to_begin : (Begin 𝓛 mem run).Ghost
+      to_begin = (
         (
           (κ, tt),
           (s, tt),
@@ -221,9 +221,9 @@ module _ {M : Type 1} {𝓤 : Ura M} (𝓛 : Logic 𝓤) (mem : Memory → SProp
         tt,
       )
 
-      goes-begin : Is N.the_row n (section_val n ∷ [])
-          → ent 𝓤 (sep 𝓤 (A.lft κ s) (sem 𝓛 Text)) ((Begin 𝓛 mem run).pre to-begin)
-      goes-begin is-n =
+      goes_begin : Is N.the_row n (section_val n ∷ [])
+          → ent 𝓤 (sep 𝓤 (A.lft κ s) (sem 𝓛 Text)) ((Begin 𝓛 mem run).pre to_begin)
+      goes_begin is-n =
           qed 𝓛 (‵ (flft κ s) ∷ ‵ Text ∷ []) ∵ nothing ! $ move ! (1 ∷ 0 ∷ []) $ join ! $ nothing ! $
           owned ! N.the_row (Is N.the_row) (LL.makes N.the_type N'.the_plain 𝓛) n _ is-n $ fjoin ! $
           move ! (2 ∷ 0 ∷ []) $ fjoin ! $ move ! (1 ∷ 0 ∷ []) $ join ! $ frame ! $ done !
@@ -231,8 +231,8 @@ module _ {M : Type 1} {𝓤 : Ura M} (𝓛 : Logic 𝓤) (mem : Memory → SProp
       abbrev BeginEn : Going → SProp 𝓤
       BeginEn r = ensured 𝓛 begin.ended (begin.clauses 𝓛 mem run) (κ, tt) (x, (n, tt)) tt r
 
-      of-begin : (r : Going) → ent 𝓤 (BeginEn r) (fact 𝓤 (r ≡ begun x.now n))
-      of-begin r = ex_e 𝓤 _ (λ us. snd∗ 𝓤 (sem 𝓛 (lasts begin.ended (κ, tt) (x, (n, tt)) us)) (fact 𝓤 (r ≡ begun x.now n)))
+      of_begin : (r : Going) → ent 𝓤 (BeginEn r) (fact 𝓤 (r ≡ begun x.now n))
+      of_begin r = ex_e 𝓤 _ (λ us. snd∗ 𝓤 (sem 𝓛 (lasts begin.ended (κ, tt) (x, (n, tt)) us)) (fact 𝓤 (r ≡ begun x.now n)))
 
     -- the buffer, lent for κ'
     module _ (κ' : Lft) (s' : Share) (b o : ℕ) (γ : GName) (bs : List ℕ) (g : Going) (d : Answer) where
@@ -242,8 +242,8 @@ module _ {M : Type 1} {𝓤 : Ura M} (𝓛 : Logic 𝓤) (mem : Memory → SProp
       abbrev Out : Fml
       Out = (MutSlice (named 1) κ' u8).own_val out_at (slice_val (b, o) (length bs) ∷ [])
 
-      abbrev pub to-go-on : (GoOn 𝓛 mem run).Ghost
-      to-go-on = (
+      abbrev pub to_go_on : (GoOn 𝓛 mem run).Ghost
+      to_go_on = (
         (
           (κ, (κ', tt)),
           (s, (s', tt)),
@@ -260,9 +260,9 @@ module _ {M : Type 1} {𝓤 : Ura M} (𝓛 : Logic 𝓤) (mem : Memory → SProp
       abbrev GoOnEn : Going → SProp 𝓤
       GoOnEn r = ensured 𝓛 go_on.ended (go_on.clauses 𝓛 mem run) (κ, (κ', tt)) (x, (out_at, (g, (d, tt)))) tt r
 
-      goes-go-on : Is G.the_row g (going_val g ∷ []) → Is R.the_row d (answer_val d ∷ [])
-          → ent 𝓤 (sep 𝓤 (sep 𝓤 (A.lft κ s) (A.lft κ' s')) (sep 𝓤 (sem 𝓛 Text) (sem 𝓛 Out))) ((GoOn 𝓛 mem run).pre to-go-on)
-      goes-go-on is_g is-d =
+      goes_go_on : Is G.the_row g (going_val g ∷ []) → Is R.the_row d (answer_val d ∷ [])
+          → ent 𝓤 (sep 𝓤 (sep 𝓤 (A.lft κ s) (A.lft κ' s')) (sep 𝓤 (sem 𝓛 Text) (sem 𝓛 Out))) ((GoOn 𝓛 mem run).pre to_go_on)
+      goes_go_on is_g is-d =
           qed 𝓛 ((‵ (flft κ s) ⊛ ‵ (flft κ' s')) ∷ ‵ Text ∷ ‵ Out ∷ []) ∵ split ! $ nothing ! $ move ! (2 ∷ 0 ∷ []) $ join ! $
           move ! (1 ∷ 0 ∷ []) $ join ! $ nothing ! $
           owned ! R.the_row (Is R.the_row) (EL.makes R.the_type R'.the_plain 𝓛) d _ is-d $ fjoin ! $
@@ -270,12 +270,12 @@ module _ {M : Type 1} {𝓤 : Ura M} (𝓛 : Logic 𝓤) (mem : Memory → SProp
           move ! (3 ∷ 0 ∷ []) $ fjoin ! $ move ! (2 ∷ 0 ∷ []) $ fjoin ! $ move ! (1 ∷ 0 ∷ []) $ join ! $ frame ! $ done !
 
   module _ (m : Machine) (g : Going) (ws : List Write) where
-    abbrev pub to-finish : (Finish 𝓛 mem run).Ghost
-    to-finish = ((tt, tt, tt, (m, (g, (ws, tt))), (machine_val m ∷ [], (going_val g ∷ [], (list_val ws ∷ [], tt)))), tt)
+    abbrev pub to_finish : (Finish 𝓛 mem run).Ghost
+    to_finish = ((tt, tt, tt, (m, (g, (ws, tt))), (machine_val m ∷ [], (going_val g ∷ [], (list_val ws ∷ [], tt)))), tt)
 
-    goes-finish : Is Q.the_row m (machine_val m ∷ []) → Is G.the_row g (going_val g ∷ []) → Is Row ws (list_val ws ∷ [])
-        → ent 𝓤 (emp 𝓤) ((Finish 𝓛 mem run).pre to-finish)
-    goes-finish is_m is_g is_ws =
+    goes_finish : Is Q.the_row m (machine_val m ∷ []) → Is G.the_row g (going_val g ∷ []) → Is Row ws (list_val ws ∷ [])
+        → ent 𝓤 (emp 𝓤) ((Finish 𝓛 mem run).pre to_finish)
+    goes_finish is_m is_g is_ws =
         let makes : Makes 𝓛 Row (Is Row) = Array-Makes 𝓛 T.the_row (LL.makes T.the_type T'.the_plain 𝓛) 1024 in
         qed 𝓛 [] ∵ nothing ! $ owned ! Row (Is Row) makes ws _ is_ws $ fjoin ! $
         owned ! G.the_row (Is G.the_row) (LL.makes G.the_type G'.the_plain 𝓛) g _ is_g $ fjoin ! $
@@ -284,63 +284,63 @@ module _ {M : Type 1} {𝓤 : Ura M} (𝓛 : Logic 𝓤) (mem : Memory → SProp
     abbrev FinishEn : Ended → SProp 𝓤
     FinishEn r = ensured 𝓛 finish.ended (finish.clauses 𝓛 mem run) tt (m, (g, (ws, tt))) tt r
 
-    of-finish : (r : Ended) → ent 𝓤 (FinishEn r) (fact 𝓤 (r ≡ ended_of m g ws))
-    of-finish r = ex_e 𝓤 _ (λ us. snd∗ 𝓤 (sem 𝓛 (lasts finish.ended tt (m, (g, (ws, tt))) us)) (fact 𝓤 (r ≡ ended_of m g ws)))
+    of_finish : (r : Ended) → ent 𝓤 (FinishEn r) (fact 𝓤 (r ≡ ended_of m g ws))
+    of_finish r = ex_e 𝓤 _ (λ us. snd∗ 𝓤 (sem 𝓛 (lasts finish.ended tt (m, (g, (ws, tt))) us)) (fact 𝓤 (r ≡ ended_of m g ws)))
 
 module _ {M : Type 1} {𝓤 : Ura M} {𝓛 : Logic 𝓤} {K : Type 0} {Γ : List (Item 𝓤)} {E : Env 𝓤 𝓛.H} {C : Calls 𝓤 𝓛.H}
     {Λ : Loops 𝓤 𝓛.H} {f : Name} {xs : List Operand} {p : Post 𝓤 𝓛.H} {l : Place} {rest : Body} where
   open 𝓛 use {H}
 
-  pub calls-no-writes : K → FmC 𝓤 H 𝓛.laws C → (mem : Memory → SProp 𝓤) (run : Routine → Fun 𝓤) → Triple 𝓤 (C f) (NoWrites 𝓛 mem run)
-      → Opds K 𝓛 (raw ((NoWrites 𝓛 mem run).pre (to-no-writes 𝓛 mem run)) ∷ Γ) E xs []
+  pub calls_no_writes : K → FmC 𝓤 H 𝓛.laws C → (mem : Memory → SProp 𝓤) (run : Routine → Fun 𝓤) → Triple 𝓤 (C f) (NoWrites 𝓛 mem run)
+      → Opds K 𝓛 (raw ((NoWrites 𝓛 mem run).pre (to_no_writes 𝓛 mem run)) ∷ Γ) E xs []
       → ((r : List Write) → r ≡ replicate 1024 no_write → Is Row r (list_val r ∷ []) → Seq K 𝓛 Γ (lands C Λ E l (list_val r) rest p))
       → Seq K 𝓛 Γ (runs C Λ E (seq (call f xs l) rest) p)
-  calls-no-writes t fm mem run known =
-      calls-values t fm (NoWrites 𝓛 mem run) known (to-no-writes 𝓛 mem run) Row (array_vals write_vals) row_tells
-      (λ r. r ≡ replicate 1024 no_write) (NoWritesEn 𝓛 mem run) (goes-no-writes 𝓛 mem run) (λ v. id⊢ 𝓤 _) (of-no-writes 𝓛 mem run)
+  calls_no_writes t fm mem run known =
+      calls_values t fm (NoWrites 𝓛 mem run) known (to_no_writes 𝓛 mem run) Row (array_vals write_vals) row_tells
+      (λ r. r ≡ replicate 1024 no_write) (NoWritesEn 𝓛 mem run) (goes_no_writes 𝓛 mem run) (λ v. id⊢ 𝓤 _) (of_no_writes 𝓛 mem run)
 
   -- [the token; what text owns; …] becomes [the token; …]
-  pub calls-begin : K → FmC 𝓤 H 𝓛.laws C → (mem : Memory → SProp 𝓤) (run : Routine → Fun 𝓤) → Triple 𝓤 (C f) (Begin 𝓛 mem run)
+  pub calls_begin : K → FmC 𝓤 H 𝓛.laws C → (mem : Memory → SProp 𝓤) (run : Routine → Fun 𝓤) → Triple 𝓤 (C f) (Begin 𝓛 mem run)
       → (κ : Lft) (s : Share) (x : Bor (List ℕ)) (n : Section)
       → Is N.the_row n (section_val n ∷ [])
-      → Opds K 𝓛 (raw ((Begin 𝓛 mem run).pre (to-begin 𝓛 mem run κ s x n)) ∷ Γ) E xs
+      → Opds K 𝓛 (raw ((Begin 𝓛 mem run).pre (to_begin 𝓛 mem run κ s x n)) ∷ Γ) E xs
       (slice_val x.ref_ptr (length x.now) ∷ section_val n ∷ [])
       → ((r : Going) → r ≡ begun x.now n → Is G.the_row r (going_val r ∷ []) → Seq K 𝓛 (‵ (flft κ s) ∷ Γ) (lands C Λ E l (going_val r) rest p))
       → Seq K 𝓛 (‵ (flft κ s) ∷ ‵ (Text 𝓛 mem run κ s x) ∷ Γ) (runs C Λ E (seq (call f xs l) rest) p)
-  calls-begin t fm mem run known κ s x n is-n os k =
-      use2 𝓛 (raw ((Begin 𝓛 mem run).pre (to-begin 𝓛 mem run κ s x n))) (goes-begin 𝓛 mem run κ s x n is-n) $
-      calls-lent t fm (Begin 𝓛 mem run) known (to-begin 𝓛 mem run κ s x n) G.the_row (LL.vals G.the_type G'.the_laws)
+  calls_begin t fm mem run known κ s x n is-n os k =
+      use2 𝓛 (raw ((Begin 𝓛 mem run).pre (to_begin 𝓛 mem run κ s x n))) (goes_begin 𝓛 mem run κ s x n is-n) $
+      calls_lent t fm (Begin 𝓛 mem run) known (to_begin 𝓛 mem run κ s x n) G.the_row (LL.vals G.the_type G'.the_laws)
       (LL.tells G.the_type G'.the_laws) (λ r. r ≡ begun x.now n) (BeginEn 𝓛 mem run κ s x n) κ s (λ v. id⊢ 𝓤 _)
-      (of-begin 𝓛 mem run κ s x n) os k
+      (of_begin 𝓛 mem run κ s x n) os k
 
-  pub calls-finish : K → FmC 𝓤 H 𝓛.laws C → (mem : Memory → SProp 𝓤) (run : Routine → Fun 𝓤) → Triple 𝓤 (C f) (Finish 𝓛 mem run)
+  pub calls_finish : K → FmC 𝓤 H 𝓛.laws C → (mem : Memory → SProp 𝓤) (run : Routine → Fun 𝓤) → Triple 𝓤 (C f) (Finish 𝓛 mem run)
       → (m : Machine) (g : Going) (ws : List Write) → Is Q.the_row m (machine_val m ∷ []) → Is G.the_row g (going_val g ∷ []) → Is Row ws (list_val ws ∷ [])
-      → Opds K 𝓛 (raw ((Finish 𝓛 mem run).pre (to-finish 𝓛 mem run m g ws)) ∷ Γ) E xs (machine_val m ∷ going_val g ∷ list_val ws ∷ [])
+      → Opds K 𝓛 (raw ((Finish 𝓛 mem run).pre (to_finish 𝓛 mem run m g ws)) ∷ Γ) E xs (machine_val m ∷ going_val g ∷ list_val ws ∷ [])
       → ((r : Ended) → r ≡ ended_of m g ws → Is F.the_row r (ended_val r ∷ []) → Seq K 𝓛 Γ (lands C Λ E l (ended_val r) rest p))
       → Seq K 𝓛 Γ (runs C Λ E (seq (call f xs l) rest) p)
-  calls-finish t fm mem run known m g ws is_m is_g is_ws =
-      calls-values t fm (Finish 𝓛 mem run) known (to-finish 𝓛 mem run m g ws) F.the_row (LL.vals F.the_type F'.the_laws)
-      (LL.tells F.the_type F'.the_laws) (λ r. r ≡ ended_of m g ws) (FinishEn 𝓛 mem run m g ws) (goes-finish 𝓛 mem run m g ws is_m is_g is_ws)
-      (λ v. id⊢ 𝓤 _) (of-finish 𝓛 mem run m g ws)
+  calls_finish t fm mem run known m g ws is_m is_g is_ws =
+      calls_values t fm (Finish 𝓛 mem run) known (to_finish 𝓛 mem run m g ws) F.the_row (LL.vals F.the_type F'.the_laws)
+      (LL.tells F.the_type F'.the_laws) (λ r. r ≡ ended_of m g ws) (FinishEn 𝓛 mem run m g ws) (goes_finish 𝓛 mem run m g ws is_m is_g is_ws)
+      (λ v. id⊢ 𝓤 _) (of_finish 𝓛 mem run m g ws)
 
 module _ {M : Type 1} {𝓤 : Ura M} {𝓛 : Logic 𝓤} {K : Type 0} {Γ : List (Item 𝓤)} {E : Env 𝓤 𝓛.H} {C : Calls 𝓤 𝓛.H}
     {Λ : Loops 𝓤 𝓛.H} {f : Name} {xs : List Operand} {p : Post 𝓤 𝓛.H} {l : Place} where
   -- a turn's last call: [the two tokens; what text owns; what out owns; …] becomes [the two tokens; out's last bytes; …]
   open 𝓛 use {H}
 
-  pub calls-go-on : K → FmC 𝓤 H 𝓛.laws C → (mem : Memory → SProp 𝓤) (run : Routine → Fun 𝓤) → Triple 𝓤 (C f) (GoOn 𝓛 mem run)
+  pub calls_go_on : K → FmC 𝓤 H 𝓛.laws C → (mem : Memory → SProp 𝓤) (run : Routine → Fun 𝓤) → Triple 𝓤 (C f) (GoOn 𝓛 mem run)
       → (κ : Lft) (s : Share) (x : MutBor (List ℕ)) (κ' : Lft) (s' : Share) (b o : ℕ) (γ : GName) (bs : List ℕ) (g : Going) (d : Answer)
       → Is G.the_row g (going_val g ∷ []) → Is R.the_row d (answer_val d ∷ [])
-      → Opds K 𝓛 (raw ((GoOn 𝓛 mem run).pre (to-go-on 𝓛 mem run κ s x κ' s' b o γ bs g d)) ∷ Γ) E xs
+      → Opds K 𝓛 (raw ((GoOn 𝓛 mem run).pre (to_go_on 𝓛 mem run κ s x κ' s' b o γ bs g d)) ∷ Γ) E xs
       (slice_val x.ref_ptr (length x.now) ∷ slice_val (b, o) (length bs) ∷ going_val g ∷ answer_val d ∷ [])
       → ((r : Going) (us : List ℕ) → WentOn x.now g d bs r us → length us ≡ length bs → Is G.the_row r (going_val r ∷ [])
       → Seq K 𝓛 (‵ (flft κ s) ∷ ‵ (flft κ' s') ∷ ‵ (finally u8 γ us) ∷ Γ) (settles E l (going_val r) p))
       → Seq K 𝓛 (‵ (flft κ s) ∷ ‵ (flft κ' s') ∷ ‵ (Text 𝓛 mem run κ s x) ∷ ‵ (Out 𝓛 mem run κ s x κ' s' b o γ bs g d) ∷ Γ)
       (runs C Λ E (call f xs l) p)
-  calls-go-on t fm mem run known κ s x κ' s' b o γ bs g d is_g is-d os k =
-      join t $ use3 𝓛 (raw ((GoOn 𝓛 mem run).pre (to-go-on 𝓛 mem run κ s x κ' s' b o γ bs g d)))
-      (goes-go-on 𝓛 mem run κ s x κ' s' b o γ bs g d is_g is-d) $
-      calls_at_last t fm (GoOn 𝓛 mem run) known (to-go-on 𝓛 mem run κ s x κ' s' b o γ bs g d) os (λ v.
+  calls_go_on t fm mem run known κ s x κ' s' b o γ bs g d is_g is-d os k =
+      join t $ use3 𝓛 (raw ((GoOn 𝓛 mem run).pre (to_go_on 𝓛 mem run κ s x κ' s' b o γ bs g d)))
+      (goes_go_on 𝓛 mem run κ s x κ' s' b o γ bs g d is_g is-d) $
+      calls_at_last t fm (GoOn 𝓛 mem run) known (to_go_on 𝓛 mem run κ s x κ' s' b o γ bs g d) os (λ v.
       use1 𝓛 (later (some (λ (r : Going). ((‵ (flft κ s) ⊛ ‵ (flft κ' s') ⊛ ‵ ftrue) ⊛ ‵ ((G.the_row).own_val r (v ∷ []))) ⊛
       raw (GoOnEn 𝓛 mem run κ s x κ' s' b o γ bs g d r)))) (id⊢ 𝓤 _) $
       await t tt $ pick t (λ r. split t $ move t (1 ∷ []) $

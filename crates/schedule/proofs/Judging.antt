@@ -41,21 +41,21 @@ some n = lt-ltb 0 (suc n) (omega arith)
 
 module _ (s : List ℕ) where
   -- what a text is found to be from a section on: its header line was passed, and so many of the header lines after the shape's
-  abbrev inSection : Header → ℕ → Passed → Sections → Judged
-  inSection h k m f = through (drop k headers) s (under h s m) (noted h (count_of m) (upto m) f)
+  abbrev in_section : Header → ℕ → Passed → Sections → Judged
+  in_section h k m f = through (drop k headers) s (under h s m) (noted h (count_of m) (upto m) f)
 
   -- and where a line is due: a header line, or one of so many
   abbrev due : Header → ℕ → ℕ → ℕ → Sections → Judged
-  due h k zero at f = inSection h k (header h s (Past 0 at)) f
+  due h k zero at f = in_section h k (header h s (Past 0 at)) f
   due h k (suc n) at f = through (drop k headers) s (lines_past (suc n) (line_due h) s at) f
 
   -- what remains to be judged
   abbrev pub remains : Progress → Judged
   remains g = cond g.on (due g.section g.next g.left g.at g.found) (ended s g.last g.found)
 
-  pub remains-all : remains (begun (length s)) ≡ judged s
+  pub remains_all : remains (begun (length s)) ≡ judged s
   unfolding begun judged sections through
-  remains-all =
+  remains_all =
       ⊎_elim
       (λ (l : ltb 65536 (length s) ≡ true). rw l)
       (λ (l : ltb 65536 (length s) ≡ false). rw l)
@@ -71,8 +71,8 @@ module _ (s : List ℕ) where
       (split k (length headers))
   settled_is h k (suc n) at f = rw (some n)
 
-  opened-is : (h : Header) (k n at : ℕ) (f : Sections) → remains (opened h k n at f) ≡ inSection h k (Past n at) f
-  opened-is h k n at f = settled_is h k (lines_under h n) at (noted h n at f)
+  opened_is : (h : Header) (k n at : ℕ) (f : Sections) → remains (opened h k n at f) ≡ in_section h k (Past n at) f
+  opened_is h k n at f = settled_is h k (lines_under h n) at (noted h n at f)
 
   stuck : (hs : List Header) (r : Refusal) (f : Sections) → through hs s (Stuck r) f ≡ Refused r
   unfolding through
@@ -83,13 +83,13 @@ module _ (s : List ℕ) where
   line_is : (g : Progress) (n : ℕ) (r : LineRead) → g.left ≡ n → read_line (due_in g) s g.at ≡ r → remains (after_line g r) ≡ due
       g.section g.next n g.at g.found
   unfolding lines_past
-  line_is g zero (Took x p) e l = rw (rw e at l, e) (opened-is g.section g.next (count_in x) p g.found)
+  line_is g zero (Took x p) e l = rw (rw e at l, e) (opened_is g.section g.next (count_in x) p g.found)
   line_is g zero (Fault r) e l = rw (rw e at l) (sym (stuck (drop g.next headers) r (noted g.section 0 0 g.found)))
   line_is g (suc n) (Took x p) e l = rw (rw (e, more n) at l, e, more n, sub-one) (settled_is g.section g.next n p g.found)
   line_is g (suc n) (Fault r) e l = rw (rw (e, more n) at l) (sym (stuck (drop g.next headers) r g.found))
 
-  pub remains-line : (g : Progress) → g.on ≡ true → remains (after_line g (read_line (due_in g) s g.at)) ≡ remains g
-  remains-line g o =
+  pub remains_line : (g : Progress) → g.on ≡ true → remains (after_line g (read_line (due_in g) s g.at)) ≡ remains g
+  remains_line g o =
       line_is g g.left (read_line (due_in g) s g.at) refl refl
       ∙ ap (λ (b : Bool). cond b (due g.section g.next g.left g.at g.found) (ended s g.last g.found)) (sym o)
 
@@ -97,8 +97,8 @@ module _ (s : List ℕ) where
   end_is (Past n p) f = refl
   end_is (Stuck r) f = refl
 
-  pub remains-end : (g : Progress) → g.on ≡ false → ended_at g (length s) ≡ remains g
-  remains-end g o = rw o (end_is g.last g.found)
+  pub remains_end : (g : Progress) → g.on ≡ false → ended_at g (length s) ≡ remains g
+  remains_end g o = rw o (end_is g.last g.found)
 
 -- what is left to read: the header lines that are still to come, and the lines of the section in hand. A count is below 2 ^ 32, which a
 -- header line that is due counts for

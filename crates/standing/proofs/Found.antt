@@ -10,7 +10,7 @@ use Rattle.standing.proofs.Bounds.{sizes}
 use Rattle.standing.specs.Stands.{sizes_stand, stands}
 use Rattle.state.specs.State.{cells_of}
 use Rattle.state.specs.declared.Machine.{Machine}
-use Rattle.writes.proofs.Searched.{searched-is}
+use Rattle.writes.proofs.Searched.{searched_is}
 use Rattle.writes.specs.History.{search_of}
 use Rattle.writes.specs.Searched.{sought_of, searched}
 use Rattle.writes.specs.declared.Looked.{Looked}
@@ -21,12 +21,12 @@ module _ (m : Machine) (ws : List Write) (first c t : ℕ) where
   abbrev seen : Bool
   seen = (searched (sought_of (cells_of m) first c t) (take m.held ws)).looked.stand
 
-  by-sizes : (z : Bool) → sizes_stand m (length ws) ≡ z → sizes_stand m (length ws) and (parts_stand m and seen) ≡ stands m ws
+  by_sizes : (z : Bool) → sizes_stand m (length ws) ≡ z → sizes_stand m (length ws) and (parts_stand m and seen) ≡ stands m ws
   unfolding stands ◌and◌ search_of
-  by-sizes true e =
+  by_sizes true e =
       ap (λ (l : Looked). sizes_stand m (length ws) and (parts_stand m and l.stand))
-      (searched-is (cells_of m) first ws c t m.held (sizes m (length ws) e).room)
-  by-sizes false e = rw e
+      (searched_is (cells_of m) first ws c t m.held (sizes m (length ws) e).room)
+  by_sizes false e = rw e
 
-  pub stands-found : sizes_stand m (length ws) and (parts_stand m and seen) ≡ stands m ws
-  stands-found = by-sizes (sizes_stand m (length ws)) refl
+  pub stands_found : sizes_stand m (length ws) and (parts_stand m and seen) ≡ stands m ws
+  stands_found = by_sizes (sizes_stand m (length ws)) refl

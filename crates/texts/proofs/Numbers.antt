@@ -17,7 +17,7 @@ use Rattle.line.specs.declared.Row.TheVariants.{NotForm, RangeAt, Read}
 use Rattle.schedule.specs.Sections.{judged, sections}
 use Rattle.schedule.specs.declared.Judged.{Judged}
 use Rattle.schedule.specs.declared.Judged.TheVariants.{Refused, Taken}
-use Rattle.texts.proofs.Places.{JudgedIn, sections-in}
+use Rattle.texts.proofs.Places.{JudgedIn, sections_in}
 use Rattle.texts.specs.Promise.{LineNumbered, JudgedNumbered}
 use Rattle.texts.specs.Schedule.{judged_number}
 
@@ -41,7 +41,7 @@ unfolding judged
 judged_numbered s =
     ⊎_elim
     (λ (l : ltb 65536 (length s) ≡ true). rw l (omega arith, (λ e. ltb-true _ _ l), λ h. refl))
-    (λ (l : ltb 65536 (length s) ≡ false). rw l (go (sections s) (sections-in s) (ltb-false _ _ l)))
+    (λ (l : ltb 65536 (length s) ≡ false). rw l (go (sections s) (sections_in s) (ltb-false _ _ l)))
     (either (ltb 65536 (length s)))
   where
     go : (j : Judged) → JudgedIn (length s) j → length s ≤ 65536

@@ -48,9 +48,9 @@ JudgedIn n (Taken x) = Unit {0}
 JudgedIn n (Refused r) = Inside n r
 
 module _ (s : List ℕ) where
-  line-in : (d : Due) (at : ℕ) → at ≤ length s → ReadIn (length s) (read_line d s at)
+  line_in : (d : Due) (at : ℕ) → at ≤ length s → ReadIn (length s) (read_line d s at)
   unfolding read_line
-  line-in d at h = go (due_row d s at) refl
+  line_in d at h = go (due_row d s at) refl
     where
       go : (r : Row) → due_row d s at ≡ r → ReadIn (length s) (line_read d at r)
       go (Read f p) e =
@@ -59,46 +59,46 @@ module _ (s : List ℕ) where
       go (RangeAt n) e = (h, omega arith)
       go (NotForm x) e = (h, omega arith)
 
-  passed-line-in : (r : LineRead) → ReadIn (length s) r → PassedIn (length s) (passed_line r)
-  passed-line-in (Took x p) h = h
-  passed-line-in (Fault r) h = h
+  passed_line_in : (r : LineRead) → ReadIn (length s) r → PassedIn (length s) (passed_line r)
+  passed_line_in (Took x p) h = h
+  passed_line_in (Fault r) h = h
 
-  header-in : (g : Header) (m : Passed) → PassedIn (length s) m → PassedIn (length s) (header g s m)
-  header-in g (Past n p) h = passed-line-in (read_line (HeaderDue g) s p) (line-in (HeaderDue g) p h)
-  header-in g (Stuck r) h = h
+  header_in : (g : Header) (m : Passed) → PassedIn (length s) m → PassedIn (length s) (header g s m)
+  header_in g (Past n p) h = passed_line_in (read_line (HeaderDue g) s p) (line_in (HeaderDue g) p h)
+  header_in g (Stuck r) h = h
 
-  next-in : (r : LineRead) (go : ℕ → Passed) → ReadIn (length s) r → ((p : ℕ) → p ≤ length s → PassedIn (length s) (go p))
+  next_in : (r : LineRead) (go : ℕ → Passed) → ReadIn (length s) r → ((p : ℕ) → p ≤ length s → PassedIn (length s) (go p))
       → PassedIn (length s) (next_line r go)
-  next-in (Took x p) go h f = f p h
-  next-in (Fault r) go h f = h
+  next_in (Took x p) go h f = f p h
+  next_in (Fault r) go h f = h
 
-  past-in : (n : ℕ) (d : Due) (at : ℕ) → at ≤ length s → PassedIn (length s) (lines_past n d s at)
+  past_in : (n : ℕ) (d : Due) (at : ℕ) → at ≤ length s → PassedIn (length s) (lines_past n d s at)
   unfolding lines_past
-  past-in zero d at h = h
-  past-in (suc n) d at h = next-in (read_line d s at) (λ p. lines_past n d s p) (line-in d at h) (past-in n d)
+  past_in zero d at h = h
+  past_in (suc n) d at h = next_in (read_line d s at) (λ p. lines_past n d s p) (line_in d at h) (past_in n d)
 
-  under-in : (g : Header) (m : Passed) → PassedIn (length s) m → PassedIn (length s) (under g s m)
-  under-in g (Past n p) h = past-in (lines_under g n) (line_due g) p h
-  under-in g (Stuck r) h = h
+  under_in : (g : Header) (m : Passed) → PassedIn (length s) m → PassedIn (length s) (under g s m)
+  under_in g (Past n p) h = past_in (lines_under g n) (line_due g) p h
+  under_in g (Stuck r) h = h
 
-  ended-in : (m : Passed) (x : Sections) → PassedIn (length s) m → JudgedIn (length s) (ended s m x)
-  ended-in (Past n p) x h =
+  ended_in : (m : Passed) (x : Sections) → PassedIn (length s) m → JudgedIn (length s) (ended s m x)
+  ended_in (Past n p) x h =
       ⊎_elim
       (λ (l : ltb p (length s) ≡ true). rw l (h, omega arith))
       (λ (l : ltb p (length s) ≡ false). rw l tt)
       (either (ltb p (length s)))
-  ended-in (Stuck r) x h = h
+  ended_in (Stuck r) x h = h
 
-  through-in : (hs : List Header) (m : Passed) (f : Sections) → PassedIn (length s) m → JudgedIn (length s) (through hs s m f)
+  through_in : (hs : List Header) (m : Passed) (f : Sections) → PassedIn (length s) m → JudgedIn (length s) (through hs s m f)
   unfolding through
-  through-in [] m f h = ended-in m f h
-  through-in (g ∷ hs) m f h =
+  through_in [] m f h = ended_in m f h
+  through_in (g ∷ hs) m f h =
       let c = header g s m in
-      through-in hs (under g s c) (noted g (count_of c) (upto c) f) (under-in g c (header-in g m h))
+      through_in hs (under g s c) (noted g (count_of c) (upto c) f) (under_in g c (header_in g m h))
 
-  pub sections-in : JudgedIn (length s) (sections s)
+  pub sections_in : JudgedIn (length s) (sections s)
   unfolding sections
-  sections-in = through-in (Shape ∷ headers) (Past 0 0) nothing_found (omega arith)
+  sections_in = through_in (Shape ∷ headers) (Past 0 0) nothing_found (omega arith)
 
 abbrev PlacedIn : ℕ → Judged → Type 0
 PlacedIn n (Taken x) = Unit {0}
@@ -109,7 +109,7 @@ unfolding judged
 judged_placed s =
     ⊎_elim
     (λ (l : ltb 65536 (length s) ≡ true). rw l (omega arith))
-    (λ (l : ltb 65536 (length s) ≡ false). rw l (go (sections s) (sections-in s) (ltb-false _ _ l)))
+    (λ (l : ltb 65536 (length s) ≡ false). rw l (go (sections s) (sections_in s) (ltb-false _ _ l)))
     (either (ltb 65536 (length s)))
   where
     go : (j : Judged) → JudgedIn (length s) j → length s ≤ 65536 → PlacedIn 65536 j

@@ -1,7 +1,7 @@
 -- A local that holds an array, as what a slice reference borrows, and back:
---     to-parts, from_parts     as a `&` borrows it: the elements side by side, in shares
---     to-cells, from-cells     as a `&mut` borrows it: the elements in memory, side by side
---     big-lit                  a literal that the MIR writes as `int_big`, for which the kit has no rule
+--     to_parts, from_parts     as a `&` borrows it: the elements side by side, in shares
+--     to_cells, from_cells     as a `&mut` borrows it: the elements in memory, side by side
+--     big_lit                  a literal that the MIR writes as `int_big`, for which the kit has no rule
 -- Assumes `Logic`.
 use mathlib.Core.Path.{◌≡◌, refl, subst}
 use Prim.Native.Nat.{ℕ}
@@ -44,9 +44,9 @@ module _ {M : Type 1} {𝓤 : Ura M} (𝓛 : Logic 𝓤) (R : RattleType) (one :
   abbrev Whole : List R.Denot → SProp 𝓤
   Whole ys = mean 𝓛 (given (Is (Array R n) ys (array_vals vals ys)) (‵ (fat full_share τ b 0 (val ys))))
 
-  pub to-parts : (ys : List R.Denot) → Is (Array R n) ys (array_vals vals ys) → ent 𝓤 (H.at full_share τ b 0 (val ys)) (sem 𝓛 (parts ys))
+  pub to_parts : (ys : List R.Denot) → Is (Array R n) ys (array_vals vals ys) → ent 𝓤 (H.at full_share τ b 0 (val ys)) (sem 𝓛 (parts ys))
   unfolding part_of
-  to-parts ys p =
+  to_parts ys p =
       qed 𝓛 (‵ (fat full_share τ b 0 (val ys)) ∷ []) ∵
       use1 𝓛 (‵ (cell_at full_share (Array R n).mir (array_vals vals ys) b 0)) (𝓛.laws.at_raw full_share τ b 0 (val ys)) $
       owned ! (Array R n) (Is (Array R n)) (Array-Makes 𝓛 R mk n) ys _ p $ move ! (1 ∷ 0 ∷ []) $ fjoin ! $
@@ -62,19 +62,19 @@ module _ {M : Type 1} {𝓤 : Ura M} (𝓛 : Logic 𝓤) (R : RattleType) (one :
       use1 𝓛 (‵ (fat full_share τ b 0 (val ys))) (𝓛.laws.raw_at full_share τ b 0 (val ys)) $
       check ! (subst (Is (Array R n) ys) (Array-Tells R vals tl n ys vs p) p) $ done !))
 
-  pub to-cells : (ys : List R.Denot) → Is (Array R n) ys (array_vals vals ys)
+  pub to_cells : (ys : List R.Denot) → Is (Array R n) ys (array_vals vals ys)
       → ent 𝓤 (H.at full_share τ b 0 (val ys)) (sem 𝓛 (cells (mem R) ys b 0))
   unfolding part_of
-  to-cells ys p =
-      qed 𝓛 (‵ (fat full_share τ b 0 (val ys)) ∷ []) ∵ use1 𝓛 (‵ (parts ys)) (to-parts ys p) $ fsplit ! $ drop ! $
+  to_cells ys p =
+      qed 𝓛 (‵ (fat full_share τ b 0 (val ys)) ∷ []) ∵ use1 𝓛 (‵ (parts ys)) (to_parts ys p) $ fsplit ! $ drop ! $
       by ! (whole_in 𝓛 R ys b 0)
 
-  pub from-cells : (ys : List R.Denot) → length ys ≡ n → ent 𝓤 (sem 𝓛 (cells (mem R) ys b 0)) (Whole ys)
+  pub from_cells : (ys : List R.Denot) → length ys ≡ n → ent 𝓤 (sem 𝓛 (cells (mem R) ys b 0)) (Whole ys)
   unfolding part_of
-  from-cells ys e =
+  from_cells ys e =
       qed 𝓛 (‵ (cells (mem R) ys b 0) ∷ []) ∵ use1 𝓛 (‵ (row R full_share ys b 0)) (whole_out 𝓛 R ys b 0) $
       feq_i ! ℕ (length ys) n e $ fjoin ! $ by ! (from_parts ys)
 
 module _ {M : Type 1} {𝓤 : Ura M} {𝓛 : Logic 𝓤} {K : Type 0} {Γ : List (Item 𝓤)} {E : Env 𝓤 𝓛.H} where
-  pub big-lit : K → {w : Width} {m : ℕ} → Fits w m → Opd K 𝓛 Γ E (int_big w m) (vint w m)
-  big-lit t {w} {m} z = record { go = λ Kt h. via 𝓤 (Kt (vint w m)) h (guard_i 𝓤 (Fits w m) (Kt (vint w m)) z) }
+  pub big_lit : K → {w : Width} {m : ℕ} → Fits w m → Opd K 𝓛 Γ E (int_big w m) (vint w m)
+  big_lit t {w} {m} z = record { go = λ Kt h. via 𝓤 (Kt (vint w m)) h (guard_i 𝓤 (Fits w m) (Kt (vint w m)) z) }

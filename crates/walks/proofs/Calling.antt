@@ -2,18 +2,18 @@
 --     Had, plains, none, one, two     what plain parameters own, which is had for nothing: of any list of them; of none, one or two
 --     enters                  what the walk of a function begins with whose first parameter may hold a reference and whose others are plain: the
 --                             token and what that first parameter owns
---     asks, asks-plain        what a call of it asks: the same; or nothing at all, where no parameter holds a reference
+--     asks, asks_plain        what a call of it asks: the same; or nothing at all, where no parameter holds a reference
 --     leaves                  what its walk ends with, once its `ensures` is shown: the same, and what the result owns
 --     landed                  a result lands as the one machine value that it has
---     calls-left              the call: its `pre` stands at the head; then the tokens, what is left of the parameters, what the result owns and
+--     calls_left              the call: its `pre` stands at the head; then the tokens, what is left of the parameters, what the result owns and
 --                             what the `ensures` says are had
---     calls-told              the same where nothing of the parameters is asked
---     calls-known             the same where that says which value the result is: the walk goes on at that value's own machine value
---     calls-known-last        the same of a call that is the last statement of its part
---     calls-met               a call of a function of plain data alone: its `pre` comes of nothing, its result lands
---     calls-lent              the same where a lent slice's token goes in and comes back
---     calls-gave              the same where a `&mut` slice is given for good: its last list is had
---     calls-known-values      `calls-met` where the result is known
+--     calls_told              the same where nothing of the parameters is asked
+--     calls_known             the same where that says which value the result is: the walk goes on at that value's own machine value
+--     calls_known_last        the same of a call that is the last statement of its part
+--     calls_met               a call of a function of plain data alone: its `pre` comes of nothing, its result lands
+--     calls_lent              the same where a lent slice's token goes in and comes back
+--     calls_gave              the same where a `&mut` slice is given for good: its last list is had
+--     calls_known_values      `calls_met` where the result is known
 -- Assumes `Logic`.
 use mathlib.Core.Path.{◌≡◌, sym, ap, subst}
 use mathlib.Core.List.{List, [], ◌∷◌}
@@ -63,8 +63,8 @@ module _ {M : Type 1} {𝓤 : Ura M} (𝓛 : Logic 𝓤) where
   two R mk x vs p S mk' y us p' = plains (R ∷ S ∷ []) (mk, (mk', tt)) (x, (y, tt)) (vs, (us, tt)) (p, (p', tt))
 
   module _ (had : Had) where
-    pub asks-plain : ent 𝓤 (emp 𝓤) (sep 𝓤 (sep 𝓤 (emp 𝓤) (sem 𝓛 had.own)) (emp 𝓤))
-    asks-plain = qed 𝓛 [] ∵ nothing ! $ use0 𝓛 (‵ had.own) had.free $ nothing ! $ join ! $ frame ! $ done !
+    pub asks_plain : ent 𝓤 (emp 𝓤) (sep 𝓤 (sep 𝓤 (emp 𝓤) (sem 𝓛 had.own)) (emp 𝓤))
+    asks_plain = qed 𝓛 [] ∵ nothing ! $ use0 𝓛 (‵ had.own) had.free $ nothing ! $ join ! $ frame ! $ done !
 
     module _ (κ : Lft) (q : Share) (P : Fml) where
       abbrev token : SProp 𝓤
@@ -115,13 +115,13 @@ module _ {M : Type 1} {𝓤 : Ura M} {𝓛 : Logic 𝓤} {K : Type 0} {Γ : List
   -- the `post` taken apart: X is had of the tokens
   open 𝓛 use {H}
 
-  told-left : K → (T : Ended) (c : Clauses 𝓤 T) (x : (Met 𝓛 T c).Ghost) (X : Item 𝓤) → ent 𝓤 (Tokens 𝓛 T c x) (mean 𝓛 X)
+  told_left : K → (T : Ended) (c : Clauses 𝓤 T) (x : (Met 𝓛 T c).Ghost) (X : Item 𝓤) → ent 𝓤 (Tokens 𝓛 T c x) (mean 𝓛 X)
       → (φ : (Answer 𝓛 T c x).Denot → Left 𝓛 T c x → Type 0) → SaysLeft 𝓛 T c x φ
       → (v : Val) (G : Goal 𝓤 H) → Soaks G
       → ((r : (Answer 𝓛 T c x).Denot) (ws : Left 𝓛 T c x) → φ r ws → Is (Answer 𝓛 T c x) r (v ∷ [])
       → Seq K 𝓛 (‵ (lasts T x.0.0 x.0.3 ws) ∷ ‵ ((Answer 𝓛 T c x).own r (v ∷ [])) ∷ X ∷ Γ) G)
       → Seq K 𝓛 (raw ((Met 𝓛 T c).post x v) ∷ Γ) G
-  told-left t T c x X tokens φ says v G z k =
+  told_left t T c x X tokens φ says v G z k =
       let R : RattleType = Answer 𝓛 T c x in
       use1 𝓛 (later (some (λ (r : R.Denot). (raw (Tokens 𝓛 T c x) ⊛ ‵ (R.own r (v ∷ []))) ⊛ raw (En 𝓛 T c x r)))) (id⊢ 𝓤 _) $
       await t z $ pick t (λ r. split t $ move t (1 ∷ []) $
@@ -136,7 +136,7 @@ module _ {M : Type 1} {𝓤 : Ura M} {𝓛 : Logic 𝓤} {K : Type 0} {Γ : List
       → ((r : (Answer 𝓛 T c x).Denot) → φ r → Is (Answer 𝓛 T c x) r (v ∷ []) → Seq K 𝓛 (‵ ((Answer 𝓛 T c x).own r (v ∷ [])) ∷ X
       ∷ Γ) G)
       → Seq K 𝓛 (raw ((Met 𝓛 T c).post x v) ∷ Γ) G
-  told t T c x X tokens φ says v G z k = told-left t T c x X tokens (λ r ws. φ r) says v G z (λ r ws e p. drop t $ k r e p)
+  told t T c x X tokens φ says v G z k = told_left t T c x X tokens (λ r ws. φ r) says v G z (λ r ws e p. drop t $ k r e p)
 
   -- where the result is known to be z, all goes on at z's own machine value
   known : K → (T : Ended) (c : Clauses 𝓤 T) (x : (Met 𝓛 T c).Ghost) (X : Item 𝓤) → ent 𝓤 (Tokens 𝓛 T c x) (mean 𝓛 X)
@@ -167,17 +167,17 @@ module _ {M : Type 1} {𝓤 : Ura M} {𝓛 : Logic 𝓤} {K : Type 0} {Γ : List
     {C : Calls 𝓤 𝓛.H} {Λ : Loops 𝓤 𝓛.H} {f : Name} {xs : List Operand} {q : Post 𝓤 𝓛.H} {d : Place} where
   open 𝓛 use {H, A}
 
-  pub calls-told : K → FmC 𝓤 H 𝓛.laws C → (T : Ended) (c : Clauses 𝓤 T) → Triple 𝓤 (C f) (Met 𝓛 T c) → (x : (Met 𝓛 T c).Ghost)
+  pub calls_told : K → FmC 𝓤 H 𝓛.laws C → (T : Ended) (c : Clauses 𝓤 T) → Triple 𝓤 (C f) (Met 𝓛 T c) → (x : (Met 𝓛 T c).Ghost)
       (X : Item 𝓤) → ent 𝓤 (Tokens 𝓛 T c x) (mean 𝓛 X)
       → (φ : (Answer 𝓛 T c x).Denot → Type 0) → Says 𝓛 T c x φ → Opds K 𝓛 (raw ((Met 𝓛 T c).pre x) ∷ Γ) E xs
       ((Met 𝓛 T c).args x)
       → {rest : Body} → ((v : Val) (r : (Answer 𝓛 T c x).Denot) → φ r → Is (Answer 𝓛 T c x) r (v ∷ [])
       → Seq K 𝓛 (‵ ((Answer 𝓛 T c x).own r (v ∷ [])) ∷ X ∷ Γ) (lands C Λ E d v rest q))
       → Seq K 𝓛 (raw ((Met 𝓛 T c).pre x) ∷ Γ) (runs C Λ E (seq (call f xs d) rest) q)
-  calls-told t fm T c met x X tokens φ says os {rest} k = calls_at t fm (Met 𝓛 T c) met x os (λ v. told t T c x X tokens φ says v
+  calls_told t fm T c met x X tokens φ says os {rest} k = calls_at t fm (Met 𝓛 T c) met x os (λ v. told t T c x X tokens φ says v
       (lands C Λ E d v rest q) tt (k v))
 
-  pub calls-known : K → FmC 𝓤 H 𝓛.laws C → (T : Ended) (c : Clauses 𝓤 T) → Triple 𝓤 (C f) (Met 𝓛 T c) → (x : (Met 𝓛 T c).Ghost)
+  pub calls_known : K → FmC 𝓤 H 𝓛.laws C → (T : Ended) (c : Clauses 𝓤 T) → Triple 𝓤 (C f) (Met 𝓛 T c) → (x : (Met 𝓛 T c).Ghost)
       (X : Item 𝓤) → ent 𝓤 (Tokens 𝓛 T c x) (mean 𝓛 X)
       → (φ : (Answer 𝓛 T c x).Denot → Type 0) → Says 𝓛 T c x φ → Opds K 𝓛 (raw ((Met 𝓛 T c).pre x) ∷ Γ) E xs
       ((Met 𝓛 T c).args x)
@@ -186,10 +186,10 @@ module _ {M : Type 1} {𝓤 : Ura M} {𝓛 : Logic 𝓤} {K : Type 0} {Γ : List
       → {rest : Body} → (Is (Answer 𝓛 T c x) z (val z ∷ []) → Seq K 𝓛 (‵ ((Answer 𝓛 T c x).own z (val z ∷ [])) ∷ X ∷ Γ)
       (lands C Λ E d (val z) rest q))
       → Seq K 𝓛 (raw ((Met 𝓛 T c).pre x) ∷ Γ) (runs C Λ E (seq (call f xs d) rest) q)
-  calls-known t fm T c met x X tokens φ says os val tells z same {rest} k =
+  calls_known t fm T c met x X tokens φ says os val tells z same {rest} k =
       calls_at t fm (Met 𝓛 T c) met x os (known t T c x X tokens φ says val tells z same (λ v. lands C Λ E d v rest q) (λ _. tt) k)
 
-  pub calls-known-last : K → FmC 𝓤 H 𝓛.laws C → (T : Ended) (c : Clauses 𝓤 T) → Triple 𝓤 (C f) (Met 𝓛 T c)
+  pub calls_known_last : K → FmC 𝓤 H 𝓛.laws C → (T : Ended) (c : Clauses 𝓤 T) → Triple 𝓤 (C f) (Met 𝓛 T c)
       → (x : (Met 𝓛 T c).Ghost) (X : Item 𝓤) → ent 𝓤 (Tokens 𝓛 T c x) (mean 𝓛 X)
       → (φ : (Answer 𝓛 T c x).Denot → Type 0) → Says 𝓛 T c x φ → Opds K 𝓛 (raw ((Met 𝓛 T c).pre x) ∷ Γ) E xs
       ((Met 𝓛 T c).args x)
@@ -197,10 +197,10 @@ module _ {M : Type 1} {𝓤 : Ura M} {𝓛 : Logic 𝓤} {K : Type 0} {Γ : List
       → (z : (Answer 𝓛 T c x).Denot) → ((r : (Answer 𝓛 T c x).Denot) → φ r → r ≡ z)
       → (Is (Answer 𝓛 T c x) z (val z ∷ []) → Seq K 𝓛 (‵ ((Answer 𝓛 T c x).own z (val z ∷ [])) ∷ X ∷ Γ) (settles E d (val z) q))
       → Seq K 𝓛 (raw ((Met 𝓛 T c).pre x) ∷ Γ) (runs C Λ E (call f xs d) q)
-  calls-known-last t fm T c met x X tokens φ says os val tells z same k =
+  calls_known_last t fm T c met x X tokens φ says os val tells z same k =
       calls_at_last t fm (Met 𝓛 T c) met x os (known t T c x X tokens φ says val tells z same (λ v. settles E d v q) (λ _. tt) k)
 
-  pub calls-left : K → FmC 𝓤 H 𝓛.laws C → (T : Ended) (c : Clauses 𝓤 T) → Triple 𝓤 (C f) (Met 𝓛 T c) → (x : (Met 𝓛 T c).Ghost)
+  pub calls_left : K → FmC 𝓤 H 𝓛.laws C → (T : Ended) (c : Clauses 𝓤 T) → Triple 𝓤 (C f) (Met 𝓛 T c) → (x : (Met 𝓛 T c).Ghost)
       (X : Item 𝓤) → ent 𝓤 (Tokens 𝓛 T c x) (mean 𝓛 X)
       → (vals : (Answer 𝓛 T c x).Denot → List Val) → Tells (Answer 𝓛 T c x) (Is (Answer 𝓛 T c x)) vals
       → (φ : (Answer 𝓛 T c x).Denot → Left 𝓛 T c x → Type 0) → SaysLeft 𝓛 T c x φ
@@ -208,11 +208,11 @@ module _ {M : Type 1} {𝓤 : Ura M} {𝓛 : Logic 𝓤} {K : Type 0} {Γ : List
       → {rest : Body} → ((r : (Answer 𝓛 T c x).Denot) (ws : Left 𝓛 T c x) → φ r ws → Is (Answer 𝓛 T c x) r (vals r)
       → Seq K 𝓛 (‵ (lasts T x.0.0 x.0.3 ws) ∷ X ∷ Γ) (lands C Λ E d (only (vals r)) rest q))
       → Seq K 𝓛 (raw ((Met 𝓛 T c).pre x) ∷ Γ) (runs C Λ E (seq (call f xs d) rest) q)
-  calls-left t fm T c met x X tokens vals tells φ says os {rest} k =
-      calls_at t fm (Met 𝓛 T c) met x os (λ v. told-left t T c x X tokens φ says v (lands C Λ E d v rest q) tt (λ r ws e p.
+  calls_left t fm T c met x X tokens vals tells φ says os {rest} k =
+      calls_at t fm (Met 𝓛 T c) met x os (λ v. told_left t T c x X tokens φ says v (lands C Λ E d v rest q) tt (λ r ws e p.
       move t (1 ∷ []) $ drop t $ landed t (Answer 𝓛 T c x) vals tells r v (k r ws e) p))
 
-  pub calls-met : K → FmC 𝓤 H 𝓛.laws C → (T : Ended) (c : Clauses 𝓤 T) → Triple 𝓤 (C f) (Met 𝓛 T c) → (x : (Met 𝓛 T c).Ghost)
+  pub calls_met : K → FmC 𝓤 H 𝓛.laws C → (T : Ended) (c : Clauses 𝓤 T) → Triple 𝓤 (C f) (Met 𝓛 T c) → (x : (Met 𝓛 T c).Ghost)
       → ent 𝓤 (emp 𝓤) ((Met 𝓛 T c).pre x)
       → (vals : (Answer 𝓛 T c x).Denot → List Val) → Tells (Answer 𝓛 T c x) (Is (Answer 𝓛 T c x)) vals
       → (φ : (Answer 𝓛 T c x).Denot → Type 0) → Says 𝓛 T c x φ
@@ -220,22 +220,22 @@ module _ {M : Type 1} {𝓤 : Ura M} {𝓛 : Logic 𝓤} {K : Type 0} {Γ : List
       → {rest : Body} → ((r : (Answer 𝓛 T c x).Denot) → φ r → Is (Answer 𝓛 T c x) r (vals r)
       → Seq K 𝓛 Γ (lands C Λ E d (only (vals r)) rest q))
       → Seq K 𝓛 Γ (runs C Λ E (seq (call f xs d) rest) q)
-  calls-met t fm T c met x pre vals tells φ says os k =
-      use0 𝓛 (raw ((Met 𝓛 T c).pre x)) pre $ calls-left t fm T c met x (‵ ftrue) (top 𝓤 _) vals tells (λ r ws. φ r) says os
+  calls_met t fm T c met x pre vals tells φ says os k =
+      use0 𝓛 (raw ((Met 𝓛 T c).pre x)) pre $ calls_left t fm T c met x (‵ ftrue) (top 𝓤 _) vals tells (λ r ws. φ r) says os
       (λ r ws e p. drop t $ drop t $ k r e p)
 
   module _ (t : K) (fm : FmC 𝓤 H 𝓛.laws C) (T : Ended) (c : Clauses 𝓤 T) (met : Triple 𝓤 (C f) (Met 𝓛 T c)) (x : (Met 𝓛 T c).Ghost)
       (κ : Lft) (s : Share) (token : ent 𝓤 (Tokens 𝓛 T c x) (A.lft κ s))
       (vals : (Answer 𝓛 T c x).Denot → List Val) (tells : Tells (Answer 𝓛 T c x) (Is (Answer 𝓛 T c x)) vals) where
-    pub calls-lent : (φ : (Answer 𝓛 T c x).Denot → Type 0) → Says 𝓛 T c x φ
+    pub calls_lent : (φ : (Answer 𝓛 T c x).Denot → Type 0) → Says 𝓛 T c x φ
         → Opds K 𝓛 (raw ((Met 𝓛 T c).pre x) ∷ Γ) E xs ((Met 𝓛 T c).args x)
         → {rest : Body} → ((r : (Answer 𝓛 T c x).Denot) → φ r → Is (Answer 𝓛 T c x) r (vals r)
         → Seq K 𝓛 (‵ (flft κ s) ∷ Γ) (lands C Λ E d (only (vals r)) rest q))
         → Seq K 𝓛 (raw ((Met 𝓛 T c).pre x) ∷ Γ) (runs C Λ E (seq (call f xs d) rest) q)
-    calls-lent φ says os k =
-        calls-left t fm T c met x (‵ (flft κ s)) token vals tells (λ r ws. φ r) says os (λ r ws e p. drop t $ k r e p)
+    calls_lent φ says os k =
+        calls_left t fm T c met x (‵ (flft κ s)) token vals tells (λ r ws. φ r) says os (λ r ws e p. drop t $ k r e p)
 
-    pub calls-gave : (R : RattleType) (γ : GName) (n : ℕ) (last : Left 𝓛 T c x → List R.Denot)
+    pub calls_gave : (R : RattleType) (γ : GName) (n : ℕ) (last : Left 𝓛 T c x → List R.Denot)
         → ((ws : Left 𝓛 T c x) → ent 𝓤 (sem 𝓛 (lasts T x.0.0 x.0.3 ws))
         (sem 𝓛 (fsep (finally R γ (last ws)) (feq ℕ (length (last ws)) n))))
         → (φ : (Answer 𝓛 T c x).Denot → List R.Denot → Type 0) → SaysLeft 𝓛 T c x (λ r ws. φ r (last ws))
@@ -243,18 +243,18 @@ module _ {M : Type 1} {𝓤 : Ura M} {𝓛 : Logic 𝓤} {K : Type 0} {Γ : List
         → {rest : Body} → ((r : (Answer 𝓛 T c x).Denot) (us : List R.Denot) → φ r us → length us ≡ n → Is (Answer 𝓛 T c x) r (vals r)
         → Seq K 𝓛 (‵ (flft κ s) ∷ ‵ (finally R γ us) ∷ Γ) (lands C Λ E d (only (vals r)) rest q))
         → Seq K 𝓛 (raw ((Met 𝓛 T c).pre x) ∷ Γ) (runs C Λ E (seq (call f xs d) rest) q)
-    calls-gave R γ n last leaves φ says os k =
-        calls-left t fm T c met x (‵ (flft κ s)) token vals tells (λ r ws. φ r (last ws)) says os (λ r ws e p.
+    calls_gave R γ n last leaves φ says os k =
+        calls_left t fm T c met x (‵ (flft κ s)) token vals tells (λ r ws. φ r (last ws)) says os (λ r ws e p.
         use1 𝓛 (‵ (fsep (finally R γ (last ws)) (feq ℕ (length (last ws)) n))) (leaves ws) $ fsplit t $ move t (1 ∷ []) $ feq_l t (λ l.
         move t (1 ∷ 0 ∷ []) $ k r (last ws) e l p))
 
-  pub calls-known-values : K → FmC 𝓤 H 𝓛.laws C → (T : Ended) (c : Clauses 𝓤 T) → Triple 𝓤 (C f) (Met 𝓛 T c) → (x : (Met 𝓛 T c).Ghost)
+  pub calls_known_values : K → FmC 𝓤 H 𝓛.laws C → (T : Ended) (c : Clauses 𝓤 T) → Triple 𝓤 (C f) (Met 𝓛 T c) → (x : (Met 𝓛 T c).Ghost)
       → ent 𝓤 (emp 𝓤) ((Met 𝓛 T c).pre x)
       → (val : (Answer 𝓛 T c x).Denot → Val) → Tells (Answer 𝓛 T c x) (Is (Answer 𝓛 T c x)) (λ y. val y ∷ [])
       → (z : (Answer 𝓛 T c x).Denot) → Says 𝓛 T c x (λ r. r ≡ z)
       → Opds K 𝓛 (raw ((Met 𝓛 T c).pre x) ∷ Γ) E xs ((Met 𝓛 T c).args x) → {rest : Body} → (Is (Answer 𝓛 T c x) z (val z ∷ [])
       → Seq K 𝓛 Γ (lands C Λ E d (val z) rest q))
       → Seq K 𝓛 Γ (runs C Λ E (seq (call f xs d) rest) q)
-  calls-known-values t fm T c met x pre val tells z says os {rest} k =
-      use0 𝓛 (raw ((Met 𝓛 T c).pre x)) pre $ calls-known t fm T c met x (‵ ftrue) (top 𝓤 _) (λ r. r ≡ z) says os val tells z (λ r e. e)
+  calls_known_values t fm T c met x pre val tells z says os {rest} k =
+      use0 𝓛 (raw ((Met 𝓛 T c).pre x)) pre $ calls_known t fm T c met x (‵ ftrue) (top 𝓤 _) (λ r. r ≡ z) says os val tells z (λ r e. e)
       (λ p. drop t $ drop t $ k p)

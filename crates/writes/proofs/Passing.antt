@@ -42,16 +42,16 @@ module _ (q : Query) (w : Write) (j : q.judged ≡ false) where
         looked = record { stand = stand i; found = found i; newest = f i };
       }
 
-  pub other-cell : (w.cell ≡ q.cell → ⊥) → q ≡ looked_at q w
+  pub other_cell : (w.cell ≡ q.cell → ⊥) → q ≡ looked_at q w
   unfolding newer ◌and◌
-  other-cell h = unjudged q.looked.newest (rw (ne_eqb _ _ h)) (rw (ne_eqb _ _ h))
+  other_cell h = unjudged q.looked.newest (rw (ne_eqb _ _ h)) (rw (ne_eqb _ _ h))
 
   module _ (e : w.cell ≡ q.cell) (h : w.stamp ≡ q.stamp → ⊥) where
-    pub not-newer : w.stamp ≤ q.looked.newest.stamp → q ≡ looked_at q w
+    pub not_newer : w.stamp ≤ q.looked.newest.stamp → q ≡ looked_at q w
     unfolding newer ◌and◌
-    not-newer l = unjudged q.looked.newest (rw (eq-eqb _ _ e, ne_eqb _ _ h)) (rw (eq-eqb _ _ e, le-ltb _ _ l))
+    not_newer l = unjudged q.looked.newest (rw (eq-eqb _ _ e, ne_eqb _ _ h)) (rw (eq-eqb _ _ e, le-ltb _ _ l))
 
-    pub now-newest : q.looked.newest.stamp < w.stamp
+    pub now_newest : q.looked.newest.stamp < w.stamp
         → record {
           judged = q.judged;
           cells = q.cells;
@@ -64,4 +64,4 @@ module _ (q : Query) (w : Write) (j : q.judged ≡ false) where
           };
         } ≡ looked_at q w
     unfolding newer ◌and◌
-    now-newest l = unjudged (record { stamp = w.stamp; value = w.value }) (rw (eq-eqb _ _ e, ne_eqb _ _ h)) (rw (eq-eqb _ _ e, lt-ltb _ _ l))
+    now_newest l = unjudged (record { stamp = w.stamp; value = w.value }) (rw (eq-eqb _ _ e, ne_eqb _ _ h)) (rw (eq-eqb _ _ e, lt-ltb _ _ l))

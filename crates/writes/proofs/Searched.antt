@@ -50,15 +50,15 @@ module _ (k first : ℕ) (ws : List Write) (c t : ℕ) where
   abbrev past : ℕ → Query
   past n = record { judged = true; cells = k; cell = c; stamp = t; looked = search_of k first ws c t n }
 
-  searched-past : (n : ℕ) → n ≤ length ws → searched (sought_of k first c t) (take n ws) ≡ past n
+  searched_past : (n : ℕ) → n ≤ length ws → searched (sought_of k first c t) (take n ws) ≡ past n
   unfolding searched sought_of looked_at search_of records_stand all_below found newest
-  searched-past zero l = refl
-  searched-past (suc n) l =
-      searched_more (sought_of k first c t) ws n l ∙ ap (λ (q : Query). looked_at q (nth ws n)) (searched-past n (omega arith))
+  searched_past zero l = refl
+  searched_past (suc n) l =
+      searched_more (sought_of k first c t) ws n l ∙ ap (λ (q : Query). looked_at q (nth ws n)) (searched_past n (omega arith))
 
   -- a search of records that there are answers what their histories have
-  pub searched-is : (n : ℕ) → n ≤ length ws → (searched (sought_of k first c t) (take n ws)).looked ≡ search_of k first ws c t n
-  searched-is n l = ap (λ (q : Query). q.looked) (searched-past n l)
+  pub searched_is : (n : ℕ) → n ≤ length ws → (searched (sought_of k first c t) (take n ws)).looked ≡ search_of k first ws c t n
+  searched_is n l = ap (λ (q : Query). q.looked) (searched_past n l)
 
 -- the record that is set is the one that the access records
 pub fill_is : (a : Access) (held : ℕ) (ws : List Write)

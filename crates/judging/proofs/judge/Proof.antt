@@ -48,8 +48,8 @@ use Rattle.line.specs.declared.LineRead.{LineRead}
 use Rattle.line.specs.contracts.LineRead as N
 use Rattle.line.proofs.LineRead.TheLaws as N'
 use Rattle.reader.specs.declared.Reader.{Reader}
-use Rattle.walks.proofs.Calling.{Met, none, one, two, enters, asks, asks-plain, leaves, calls-known, calls-known-last, calls-known-values as calls-values}
-use Rattle.reader.proofs.Held.{at_place, is_at, spelled, B, S, reader-tells, twice, typed-local}
+use Rattle.walks.proofs.Calling.{Met, none, one, two, enters, asks, asks_plain, leaves, calls_known, calls_known_last, calls_known_values as calls_values}
+use Rattle.reader.proofs.Held.{at_place, is_at, spelled, B, S, reader_tells, twice, typed_local}
 use Rattle.reader.proofs.Reader.TheLaws as T'
 use Rattle.reader.specs.contracts.on as on
 use Rattle.reader.proofs.on.Symbol as on_def
@@ -67,7 +67,7 @@ use Rattle.schedule.specs.Judging.{begun, due_in, after_line, ended_at}
 use Rattle.schedule.specs.Sections.{judged}
 use Rattle.schedule.specs.declared.Judged.{Judged}
 use Rattle.schedule.specs.declared.Progress.{Progress}
-use Rattle.schedule.proofs.Judging.{begun_at, remains, remains-all, remains-line, remains-end, unread, unread_falls}
+use Rattle.schedule.proofs.Judging.{begun_at, remains, remains_all, remains_line, remains_end, unread, unread_falls}
 use Rattle.schedule.specs.contracts.Judged as J
 use Rattle.schedule.proofs.Judged.TheLaws as J'
 use Rattle.schedule.specs.contracts.Progress as P
@@ -184,17 +184,17 @@ module _ {M : Type 1} {𝓤 : Ura M} (𝓛 : Logic 𝓤) (mem : Memory → SProp
       asks 𝓛 (one 𝓛 usize (uint_Makes 𝓛 w64) (then g).at (vint w64 (then g).at ∷ [])
       (LL.owed P.the_type P'.the_laws (then g) _ p).1.0) κ q (OwnR g)
 
-  abbrev to-begin : (Met 𝓛 begin.ended (begin.clauses 𝓛 mem run)).Ghost
-  to-begin = ((tt, tt, tt, (n, tt), (vint w64 n ∷ [], tt)), tt)
+  abbrev to_begin : (Met 𝓛 begin.ended (begin.clauses 𝓛 mem run)).Ghost
+  to_begin = ((tt, tt, tt, (n, tt), (vint w64 n ∷ [], tt)), tt)
 
-  goes-begin : ent 𝓤 (emp 𝓤) ((Met 𝓛 begin.ended (begin.clauses 𝓛 mem run)).pre to-begin)
-  goes-begin = asks-plain 𝓛 (one 𝓛 usize (uint_Makes 𝓛 w64) n (vint w64 n ∷ []) (refl, room.0))
+  goes_begin : ent 𝓤 (emp 𝓤) ((Met 𝓛 begin.ended (begin.clauses 𝓛 mem run)).pre to_begin)
+  goes_begin = asks_plain 𝓛 (one 𝓛 usize (uint_Makes 𝓛 w64) n (vint w64 n ∷ []) (refl, room.0))
 
   abbrev to-due : Progress → (Met 𝓛 due.ended (due.clauses 𝓛 mem run)).Ghost
   to-due g = ((tt, tt, tt, (g, tt), (pv g ∷ [], tt)), tt)
 
   goes-due : (g : Progress) → Is P.the_row g (pv g ∷ []) → ent 𝓤 (emp 𝓤) ((Met 𝓛 due.ended (due.clauses 𝓛 mem run)).pre (to-due g))
-  goes-due g p = asks-plain 𝓛 (one 𝓛 P.the_row (LL.makes P.the_type P'.the_plain 𝓛) g (pv g ∷ []) p)
+  goes-due g p = asks_plain 𝓛 (one 𝓛 P.the_row (LL.makes P.the_type P'.the_plain 𝓛) g (pv g ∷ []) p)
 
   abbrev to-pass : Progress → (Met 𝓛 pass.ended (pass.clauses 𝓛 mem run)).Ghost
   to-pass g = ((tt, tt, tt, (g, (line g, tt)), (pv g ∷ [], (nv (line g) ∷ [], tt))), tt)
@@ -202,7 +202,7 @@ module _ {M : Type 1} {𝓤 : Ura M} (𝓛 : Logic 𝓤) (mem : Memory → SProp
   goes-pass : (g : Progress) → Is P.the_row g (pv g ∷ []) → Is N.the_row (line g) (nv (line g) ∷ [])
       → ent 𝓤 (emp 𝓤) ((Met 𝓛 pass.ended (pass.clauses 𝓛 mem run)).pre (to-pass g))
   goes-pass g p r =
-      asks-plain 𝓛 (two 𝓛 P.the_row (LL.makes P.the_type P'.the_plain 𝓛) g (pv g ∷ []) p
+      asks_plain 𝓛 (two 𝓛 P.the_row (LL.makes P.the_type P'.the_plain 𝓛) g (pv g ∷ []) p
       N.the_row (EL.makes N.the_type N'.the_plain 𝓛) (line g) (nv (line g) ∷ []) r)
 
   abbrev to_end : Progress → (Met 𝓛 end.ended (end.clauses 𝓛 mem run)).Ghost
@@ -210,7 +210,7 @@ module _ {M : Type 1} {𝓤 : Ura M} (𝓛 : Logic 𝓤) (mem : Memory → SProp
 
   goes_end : (g : Progress) → Is P.the_row g (pv g ∷ []) → ent 𝓤 (emp 𝓤) ((Met 𝓛 end.ended (end.clauses 𝓛 mem run)).pre (to_end g))
   goes_end g p =
-      asks-plain 𝓛 (two 𝓛 P.the_row (LL.makes P.the_type P'.the_plain 𝓛) g (pv g ∷ []) p
+      asks_plain 𝓛 (two 𝓛 P.the_row (LL.makes P.the_type P'.the_plain 𝓛) g (pv g ∷ []) p
       usize (uint_Makes 𝓛 w64) n (vint w64 n ∷ []) (refl, room.0))
 
   module _ (𝓣 : Tables 𝓤 H) (fm : FmC 𝓤 H 𝓛.laws 𝓣.C) (known : Known 𝓛 mem run 𝓣.C) (l₀ l₁ l₂ l₃ l₄ l₅ l₆ l₇ l₈ l₉ : ℕ) where
@@ -263,37 +263,37 @@ module _ {M : Type 1} {𝓤 : Ura M} (𝓛 : Logic 𝓤) (mem : Memory → SProp
         rewrite ! 9 (λ (u : Bool). ‵ (fat full_share ty_bool l₆ 0 (vbool u))) e refl $ stays ! (load ! (from ! (stop !)) (look ! 9 refl)) $
         move ! (2 ∷ []) $ peeks ! (B κ) (Is (B κ)) (shows 𝓛 (B κ)) (h g) (T'.lowered (h g) ∷ []) (λ pr. move ! (1 ∷ 2 ∷ []) $
         assigns ! (of_opd ! (load ! (from ! (stop !)) (look ! 17 refl))) (from ! (stop !))
-        (init ! 7 refl (typed-local κ 𝓛 (h g) pr)) $
+        (init ! 7 refl (typed_local κ 𝓛 (h g) pr)) $
         -- what is due
-        calls-values ! fm due.ended (due.clauses 𝓛 mem run) known.due (to-due g) (goes-due g s.1.1) uv
+        calls_values ! fm due.ended (due.clauses 𝓛 mem run) known.due (to-due g) (goes-due g s.1.1) uv
         (EL.tells U.the_type U'.the_laws) (due_in g) (λ r ws. id⊢ 𝓤 _) (and_then ! (load ! (from ! (stop !)) (look ! 16 refl)) (no_more !))
         (λ pu.
         land ! (from ! (stop !)) (init ! 5 refl ((EL.lawful U.the_type U'.the_laws 𝓛 tt).typed (due_in g) _ pu).0) $
         -- that line
         move ! (2 ∷ []) $ use1 𝓛 (‵ (OwnR g) ⊛ ‵ (OwnR g)) (twice κ 𝓛 (h g)) $ split ! $ move ! (2 ∷ 0 ∷ []) $
         use2 𝓛 (raw ((Met 𝓛 next.ended (next.clauses 𝓛 mem run)).pre (to-next g))) (goes-next g pu) $
-        calls-known ! fm next.ended (next.clauses 𝓛 mem run) known.next (to-next g) (‵ (flft κ q)) (fst∗ 𝓤 _ (emp 𝓤))
+        calls_known ! fm next.ended (next.clauses 𝓛 mem run) known.next (to-next g) (‵ (flft κ q)) (fst∗ 𝓤 _ (emp 𝓤))
         (λ r. r ≡ line g) (λ r ws. id⊢ 𝓤 _) (and_then ! (load ! (from ! (stop !)) (look ! 7 refl))
         (and_then ! (load ! (from ! (stop !)) (look ! 5 refl)) (no_more !)))
         nv (EL.tells N.the_type N'.the_laws) (line g) (λ r i. i) (λ pn. drop ! $
         land ! (from ! (stop !)) (init ! 13 refl ((EL.lawful N.the_type N'.the_laws 𝓛 tt).typed (line g) _ pn).0) $
         -- is passed
-        calls-values ! fm pass.ended (pass.clauses 𝓛 mem run) known.pass (to-pass g) (goes-pass g s.1.1 pn) pv
+        calls_values ! fm pass.ended (pass.clauses 𝓛 mem run) known.pass (to-pass g) (goes-pass g s.1.1 pn) pv
         (LL.tells P.the_type P'.the_laws) (then g) (λ r ws. id⊢ 𝓤 _) (and_then ! (load ! (from ! (stop !)) (look ! 16 refl))
         (and_then ! (load ! (from ! (stop !)) (look ! 14 refl)) (no_more !))) (λ pg.
         land ! (from ! (stop !)) (store ! 15 refl ((LL.lawful P.the_type P'.the_laws 𝓛).typed (then g) _ pg).0) $
         -- and the reader moves on
         assigns ! (of_opd ! (load ! (from ! (stop !)) (look ! 17 refl))) (from ! (stop !))
-        (init ! 3 refl (typed-local κ 𝓛 (h g) pr)) $
+        (init ! 3 refl (typed_local κ 𝓛 (h g) pr)) $
         use2 𝓛 (raw ((Met 𝓛 moved.ended (moved.clauses 𝓛 mem run)).pre (to-moved g))) (goes_moved g pg) $
-        calls-known-last ! fm moved.ended (moved.clauses 𝓛 mem run) known.moved (to-moved g) (‵ (flft κ q)) (fst∗ 𝓤 _ (emp 𝓤))
+        calls_known_last ! fm moved.ended (moved.clauses 𝓛 mem run) known.moved (to-moved g) (‵ (flft κ q)) (fst∗ 𝓤 _ (emp 𝓤))
         (λ r. (r.text ≡ x) × (r.at ≡ (then g).at)) (λ r ws. id⊢ 𝓤 _)
         (and_then ! (load ! (from ! (stop !)) (look ! 2 refl))
         (and_then ! (load ! (from ! (fld ! refl (stop !))) (look_in ! 14 (sub ! 1 refl (whole !)))) (no_more !)))
-        T'.lowered (reader-tells κ) (h (then g)) (is_at x (then g).at) (λ pm.
-        land_last ! (from ! (stop !)) (store ! 17 refl (typed-local κ 𝓛 (h (then g)) pm)) $
+        T'.lowered (reader_tells κ) (h (then g)) (is_at x (then g).at) (λ pm.
+        land_last ! (from ! (stop !)) (store ! 17 refl (typed_local κ 𝓛 (h (then g)) pm)) $
         move ! (1 ∷ 2 ∷ []) $ forget ! 3 refl $ forget ! 5 refl $ forget ! 7 refl $ forget ! 9 refl $ forget ! 13 refl $
-        again ! ≺ I s (then g, (remains-line t g e ∙ s.1.0, pg)) (unread_falls g (line g) e (LL.owed P.the_type P'.the_laws (then g) _
+        again ! ≺ I s (then g, (remains_line t g e ∙ s.1.0, pg)) (unread_falls g (line g) e (LL.owed P.the_type P'.the_laws (then g) _
         pg).1.1.1.1.0.1))))))
     turn s false e =
         let g = s.0 in
@@ -303,7 +303,7 @@ module _ {M : Type 1} {𝓤 : Ura M} (𝓛 : Logic 𝓤) (mem : Memory → SProp
         leaves_loop ! (load ! (from ! (stop !)) (look ! 9 refl)) $ exec ! C Λ E mir.t-5 (at_ret E Post) $
         assigns ! (of_opd ! (load ! (from ! (fld ! refl (stop !))) (look_in ! 19 (sub ! 1 refl (whole !))))) (from ! (stop !))
         (store ! 11 refl (tt, record { fits = room.0 })) $
-        calls-values ! fm end.ended (end.clauses 𝓛 mem run) known.end (to_end g) (goes_end g s.1.1) jv
+        calls_values ! fm end.ended (end.clauses 𝓛 mem run) known.end (to_end g) (goes_end g s.1.1) jv
         (EL.tells J.the_type J'.the_laws) (ended_at g n) (λ r ws. id⊢ 𝓤 _) (and_then ! (load ! (from ! (stop !)) (look ! 16 refl))
         (and_then ! (load ! (from ! (stop !)) (look ! 12 refl)) (no_more !))) (λ pj.
         land ! (from ! (stop !)) (init ! 21 refl ((EL.lawful J.the_type J'.the_laws 𝓛 tt).typed (ended_at g n) _ pj).0) $
@@ -312,7 +312,7 @@ module _ {M : Type 1} {𝓤 : Ura M} (𝓛 : Logic 𝓤) (mem : Memory → SProp
         move ! (21 ∷ 22 ∷ []) $ free1 ! $ move ! (19 ∷ 20 ∷ []) $ free1 ! $ move ! (17 ∷ 18 ∷ []) $ free1 ! $ move ! (15 ∷ 16 ∷ []) $
         free1 ! $ move ! (13 ∷ 14 ∷ []) $ free1 ! $ move ! (11 ∷ 12 ∷ []) $ free1 ! $ move ! (9 ∷ 10 ∷ []) $ free1 ! $
         move ! (7 ∷ 8 ∷ []) $ free1 ! $ move ! (5 ∷ 6 ∷ []) $ free1 ! $ move ! (3 ∷ 4 ∷ []) $ free1 ! $ free0 ! $ keep ! (0 ∷ 1 ∷ []) $
-        by ! (exits (ended_at g n) (remains-end t g e ∙ s.1.0) pj))
+        by ! (exits (ended_at g n) (remains_end t g e ∙ s.1.0) pj))
 
     looping : (s : State)
         → Sq 𝓛 (I s) (runs C Λ E mir.s-4 (any_q (after_seq 𝓤 H (Wp 𝓤 H C Λ E mir.t-5 (at_return 𝓤 H E Post)) (at_return 𝓤 H E Post))))
@@ -332,18 +332,18 @@ module _ {M : Type 1} {𝓤 : Ura M} (𝓛 : Logic 𝓤) (mem : Memory → SProp
         use1 𝓛 (‵ OwnS ⊛ ‵ OwnS) ((shr_slice_copy 𝓛 (named 0) κ u8).twice x (v ∷ [])) $ split ! $
         move ! (2 ∷ 0 ∷ []) $ use2 𝓛 (raw ((Met 𝓛 on.ended (on.clauses 𝓛 mem run)).pre to-on)) (asks 𝓛 (none 𝓛) κ q OwnS) $
         -- [pre; what the text owns; _9 (2); …; _k (20 - 2 k); …]
-        calls-known ! fm on.ended (on.clauses 𝓛 mem run) known.on to-on (‵ (flft κ q)) (fst∗ 𝓤 _ (emp 𝓤))
+        calls_known ! fm on.ended (on.clauses 𝓛 mem run) known.on to-on (‵ (flft κ q)) (fst∗ 𝓤 _ (emp 𝓤))
         (λ r. (r.text ≡ x) × (r.at ≡ 0)) (λ r ws. id⊢ 𝓤 _) (and_then ! (load ! (from ! (stop !)) (look ! 18 refl)) (no_more !))
-        T'.lowered (reader-tells κ) (h (begun n)) (λ r e. is_at x (begun n).at r
+        T'.lowered (reader_tells κ) (h (begun n)) (λ r e. is_at x (begun n).at r
         (e.0, e.1 ∙ sym (begun_at n))) (λ p.
-        land ! (from ! (stop !)) (init ! 17 refl (typed-local κ 𝓛 (h (begun n)) p)) $
+        land ! (from ! (stop !)) (init ! 17 refl (typed_local κ 𝓛 (h (begun n)) p)) $
         move ! (1 ∷ 2 ∷ []) $
         assigns ! (of_opd ! (load ! (from ! (fld ! refl (stop !))) (look_in ! 19 (sub ! 1 refl (whole !))))) (from ! (stop !))
         (init ! 11 refl (tt, record { fits = room.0 })) $
-        calls-values ! fm begin.ended (begin.clauses 𝓛 mem run) known.begin to-begin goes-begin pv (LL.tells P.the_type P'.the_laws)
+        calls_values ! fm begin.ended (begin.clauses 𝓛 mem run) known.begin to_begin goes_begin pv (LL.tells P.the_type P'.the_laws)
         (begun n) (λ r ws. id⊢ 𝓤 _) (and_then ! (load ! (from ! (stop !)) (look ! 12 refl)) (no_more !)) (λ pg.
         land ! (from ! (stop !)) (init ! 15 refl ((LL.lawful P.the_type P'.the_laws 𝓛).typed (begun n) _ pg).0) $
-        first ! $ looping (begun n, (remains-all t, pg))))
+        first ! $ looping (begun n, (remains_all t, pg))))
 
   walk : (𝓣 : Tables 𝓤 H) (fm : FmC 𝓤 H 𝓛.laws 𝓣.C) → Known 𝓛 mem run 𝓣.C → ent 𝓤 (on_entry 𝓛 f.signature (κ, tt) (q, tt)
       (x, tt) at) (WpFn 𝓤 H 𝓣.C 𝓣.Λ code.function (v ∷ []) Post)

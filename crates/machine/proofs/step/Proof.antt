@@ -39,7 +39,7 @@ use Rattle.walks.proofs.Walked.{meets}
 use Rattle.asking.specs.contracts.Asked as P
 use Rattle.asking.proofs.Asked.TheLaws as P'
 use Rattle.asking.specs.Ask.{anew}
-use Rattle.decision.proofs.Known.{unknown-step}
+use Rattle.decision.proofs.Known.{unknown_step}
 use Rattle.rules.specs.contracts.Done as D
 use Rattle.rules.proofs.Done.TheLaws as D'
 use Rattle.rules.specs.Step.{outcome, step_of}
@@ -53,7 +53,7 @@ use Rattle.step.specs.declared.Step.{Step}
 use Rattle.writes.proofs.Lent.{lent_at}
 use Rattle.writes.specs.contracts.Write as T
 use Rattle.writes.specs.declared.Write.{Write}
-use Rattle.machine.proofs.Stepping.{Stepping, calls-step, machine_val, done_val, step_val}
+use Rattle.machine.proofs.Stepping.{Stepping, calls_step, machine_val, done_val, step_val}
 use Rattle.machine.proofs.step_by.Symbol as step_by_def
 use Rattle.machine.proofs.step_by.Symbol.{name as #step-by}
 use Rattle.machine.proofs.step_by.Met as step_by_thm
@@ -122,13 +122,13 @@ module _ {M : Type 1} {𝓤 : Ura M} (𝓛 : Logic 𝓤) (at_mem : Memory → SP
           assigns ! (agg ! (and_then ! (load ! (from ! (stop !)) (look ! 4 refl))
           (and_then ! (load ! (from ! (fld ! refl (stop !))) (look_in ! 10 (sub ! 1 refl (whole !)))) (no_more !)))) (from ! (stop !))
           (init ! 2 refl (tt, (tt, (record { fits = room.0 }, tt)))) $
-          calls-step ! fm at_mem run Known-step κ q b o γ ws m (anew s) gm is
+          calls_step ! fm at_mem run Known-step κ q b o γ ws m (anew s) gm is
           (and_then ! (load ! (from ! (stop !)) (look ! 11 refl)) (and_then ! (load ! (from ! (stop !)) (look ! 1 refl))
           (and_then ! (load ! (from ! (stop !)) (look ! 5 refl)) (no_more !)))) (λ r us e l gr.
           land ! (from ! (stop !)) (init ! 14 refl ((LL.lawful D.the_type D'.the_laws 𝓛).typed r _ gr).0) $
           returns ! (look ! 14 refl) $ freed ! 14 refl refl $ freed ! 12 refl refl $ freed ! 10 refl refl $ freed ! 8 refl refl $
           freed ! 6 refl refl $ freed ! 4 refl refl $ freed ! 2 refl refl $ free0 ! $
-          keep ! (0 ∷ 1 ∷ []) $ by ! (exits r us (e ∙ unknown-step m ws s) l gr))
+          keep ! (0 ∷ 1 ∷ []) $ by ! (exits r us (e ∙ unknown_step m ws s) l gr))
 
     walk : ent 𝓤 (on_entry 𝓛 f.signature (κ, tt) (q, tt) (m, (lent_at b o γ ws, (s, tt))) at)
         (WpFn 𝓤 H C Λ code.function (machine_val m ∷ mach ∷ step_val s ∷ []) Post)

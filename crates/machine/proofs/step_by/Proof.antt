@@ -41,7 +41,7 @@ use denote.Triple.Spec.{Meets, triple_of}
 use denote.Triple.Table.{entered, cited}
 use denote.Triple.Walked.{says, Stays, stay_none, gave_slice, walk_of, Goes-none, Goes-gave_slice, ends_at}
 use denote.Exit.{yes}
-use Rattle.walks.proofs.Calling.{Met, plains, asks-plain, calls-met}
+use Rattle.walks.proofs.Calling.{Met, plains, asks_plain, calls_met}
 use Rattle.walks.proofs.Freed.{freed}
 use Rattle.walks.proofs.Walked.{meets}
 use Rattle.asking.specs.Ask.{ask_of}
@@ -56,7 +56,7 @@ use Rattle.writes.specs.Searched.{searched}
 use Rattle.writes.specs.declared.Query.{Query}
 use Rattle.writes.specs.declared.Write.{Write}
 use Rattle.decision.proofs.Settled.{settled}
-use Rattle.writes.proofs.Lent.{Search, Store, calls-search, calls-store, lent_at, query_vals}
+use Rattle.writes.proofs.Lent.{Search, Store, calls_search, calls_store, lent_at, query_vals}
 use Rattle.walks.proofs.Shared.{LentShared, lends_shared, shared_back}
 use Rattle.asking.specs.contracts.Asked as P
 use Rattle.asking.proofs.Asked.TheLaws as P'
@@ -174,7 +174,7 @@ module _ {M : Type 1} {𝓤 : Ura M} (𝓛 : Logic 𝓤) (at_mem : Memory → SP
 
   goes-ask : ent 𝓤 (emp 𝓤) ((AskFn 𝓛 at_mem run).pre to-ask)
   goes-ask =
-      asks-plain 𝓛 (plains 𝓛 (S.the_row ∷ usize ∷ P.the_row ∷ []) (
+      asks_plain 𝓛 (plains 𝓛 (S.the_row ∷ usize ∷ P.the_row ∷ []) (
         LL.makes S.the_type S'.the_plain 𝓛,
         (uint_Makes 𝓛 w64, (LL.makes P.the_type P'.the_plain 𝓛, tt)),
       )
@@ -187,7 +187,7 @@ module _ {M : Type 1} {𝓤 : Ura M} (𝓛 : Logic 𝓤) (at_mem : Memory → SP
   goes-verdict : (k : Ask) (u : Query) → Is K.the_row k (kval k ∷ []) → Is Q.the_row u (query_vals u)
       → ent 𝓤 (emp 𝓤) ((VerdictFn 𝓛 at_mem run).pre (to-verdict k u))
   goes-verdict k u gk gu =
-      asks-plain 𝓛 (plains 𝓛 (S.the_row ∷ usize ∷ P.the_row ∷ K.the_row ∷ Q.the_row ∷ []) (
+      asks_plain 𝓛 (plains 𝓛 (S.the_row ∷ usize ∷ P.the_row ∷ K.the_row ∷ Q.the_row ∷ []) (
         LL.makes S.the_type S'.the_plain 𝓛,
         (
           uint_Makes 𝓛 w64,
@@ -235,7 +235,7 @@ module _ {M : Type 1} {𝓤 : Ura M} (𝓛 : Logic 𝓤) (at_mem : Memory → SP
           -- [the token; what ws owns; _12 (2); …; _j (26 - 2 j); …]
           assigns ! (of_opd ! (load ! (from ! (fld ! refl (stop !))) (look_in ! 22 (sub ! 1 refl (whole !))))) (from ! (stop !))
           (init ! 18 refl (tt, record { fits = room.0 })) $
-          calls-met ! fm ask_of.ended (ask_of.clauses 𝓛 at_mem run) known-ask to-ask goes-ask (LL.vals K.the_type K'.the_laws)
+          calls_met ! fm ask_of.ended (ask_of.clauses 𝓛 at_mem run) known-ask to-ask goes-ask (LL.vals K.the_type K'.the_laws)
           (LL.tells K.the_type K'.the_laws) (AsksFor m n s) (λ r us. id⊢ 𝓤 _)
           (and_then ! (load ! (from ! (stop !)) (look ! 25 refl)) (and_then ! (load ! (from ! (stop !)) (look ! 19 refl))
           (and_then ! (load ! (from ! (stop !)) (look ! 21 refl)) (no_more !)))) (λ k ek pk.
@@ -251,7 +251,7 @@ module _ {M : Type 1} {𝓤 : Ura M} (𝓛 : Logic 𝓤) (at_mem : Memory → SP
           use2 𝓛 (later (some (λ (δ : GName). ‵ ((ShrSlice (named 0) (ν ∷ []) T.the_row).own_val (x δ) (mach ∷ [])) ⊛ ‵
           (LentShared T.the_row κ (ν ∷ []) q γ b o ws))))
           (lends_shared T.the_row κ (ν ∷ []) q γ b o ws 𝓛 (named 0) (named 0)) $ await ! tt $ pick ! (λ δ. split ! $ move ! (2 ∷ 0 ∷ []) $
-          calls-search ! fm at_mem run known-search (ν ∷ []) full_share b o δ ws k.held k.query gk.1.0.1 gk.1.1.0
+          calls_search ! fm at_mem run known-search (ν ∷ []) full_share b o δ ws k.held k.query gk.1.0.1 gk.1.1.0
           (and_then ! (load ! (from ! (stop !)) (look ! 8 refl))
           (and_then ! (load ! (from ! (fld ! refl (stop !))) (look_in ! 16 (sub ! 1 refl (whole !))))
           (and_then ! (load ! (from ! (fld ! refl (stop !))) (look_in ! 16 (sub ! 2 refl (whole !)))) (no_more !)))) (λ u eu pu.
@@ -259,7 +259,7 @@ module _ {M : Type 1} {𝓤 : Ura M} (𝓛 : Logic 𝓤) (at_mem : Memory → SP
           -- ν is ended, and the slice comes back
           lft_end ! tt $ use2 𝓛 (later (‵ Own ⊛ ‵ (flft κ q))) (shared_back T.the_row κ (ν ∷ []) q γ b o ws 𝓛 (named 0) (named 0) room) $
           await ! tt $ split ! $ move ! (1 ∷ 0 ∷ []) $
-          calls-met ! fm verdict_of.ended (verdict_of.clauses 𝓛 at_mem run) known-verdict (to-verdict k u) (goes-verdict k u pk pu)
+          calls_met ! fm verdict_of.ended (verdict_of.clauses 𝓛 at_mem run) known-verdict (to-verdict k u) (goes-verdict k u pk pu)
           (LL.vals J.the_type J'.the_laws) (LL.tells J.the_type J'.the_laws) (Settles m n s k u) (λ r us. id⊢ 𝓤 _)
           (and_then ! (load ! (from ! (stop !)) (look ! 25 refl)) (and_then ! (load ! (from ! (stop !)) (look ! 19 refl))
           (and_then ! (load ! (from ! (stop !)) (look ! 21 refl)) (and_then ! (load ! (from ! (stop !)) (look ! 17 refl))
@@ -273,7 +273,7 @@ module _ {M : Type 1} {𝓤 : Ura M} (𝓛 : Logic 𝓤) (at_mem : Memory → SP
           (and_then ! (load ! (from ! (fld ! refl (stop !))) (look_in ! 22 (sub ! 1 refl (whole !)))) (no_more !)))) (from ! (stop !))
           (init ! 2 refl (tt, (tt, (record { fits = room.0 }, tt)))) $
           -- the slice is given to `store` for good; the offsets in the verdict are written out, since found by antt they are large terms
-          calls-store ! fm at_mem run known_store κ q b o γ ws v.fill.at v.fill.write gf.0.1 gf.1.0
+          calls_store ! fm at_mem run known_store κ q b o γ ws v.fill.at v.fill.write gf.0.1 gf.1.0
           (and_then ! (load ! (from ! (stop !)) (look ! 1 refl))
           (and_then ! (load ! (from ! (fld ! {τ = F'.mir} {d = 0} refl (fld ! {d = 0} refl (stop !))))
           (look_in ! 11 (sub ! 0 {d = 0} refl (sub ! 0 {τ = F'.mir} {d = 0} refl (whole !)))))

@@ -3,7 +3,7 @@ use Prim.Native.Nat.{◌+◌, ◌-◌, ◌≤◌}
 use native.Mathlib.Omega.{arith}
 use lib.ListN.{length, drop}
 use Rattle.form.specs.Text.{word_text}
-use Rattle.measure.proofs.Widths.{text-end, text-zero, text_more}
+use Rattle.measure.proofs.Widths.{text_end, text_zero, text_more}
 use Rattle.measure.proofs.word_width.Given as goal
 
 abbrev pub invariant-loop-j : goal.invariant-loop-j

@@ -1,7 +1,7 @@
 use mathlib.Core.Path.{sym, ◌∙◌}
 use native.Mathlib.Omega.{arith}
 use borrow.Author.Rules.{rules}
-use Rattle.operand.proofs.Laws.{spaced-yes, spaced-none}
+use Rattle.operand.proofs.Laws.{spaced_yes, spaced_none}
 use Rattle.digits.proofs.Digits.{inside}
 use Rattle.operand.proofs.read_spaced.Goals as goal
 
@@ -10,7 +10,7 @@ overflow_add-at c =
     omega (arith, inside c.args.text.now c.args.at (omega (arith, c.byte_at.ensures, c.if-byte_at-eq32.true)))
 
 pub returns-then-byte_at-eq32 : goal.returns-then-byte_at-eq32
-returns-then-byte_at-eq32 c = c.read_kind.ensures ∙ sym (spaced-yes _ _ _ (sym c.byte_at.ensures ∙ c.if-byte_at-eq32.true))
+returns-then-byte_at-eq32 c = c.read_kind.ensures ∙ sym (spaced_yes _ _ _ (sym c.byte_at.ensures ∙ c.if-byte_at-eq32.true))
 
 pub returns-else-byte_at-eq32 : goal.returns-else-byte_at-eq32
-returns-else-byte_at-eq32 c = sym (spaced-none _ _ _ (λ e. c.if-byte_at-eq32.false (c.byte_at.ensures ∙ e)))
+returns-else-byte_at-eq32 c = sym (spaced_none _ _ _ (λ e. c.if-byte_at-eq32.false (c.byte_at.ensures ∙ e)))

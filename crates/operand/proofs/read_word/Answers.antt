@@ -3,7 +3,7 @@ use Prim.Native.Nat.{◌-◌, ◌≤◌, ◌<◌}
 use native.Mathlib.Omega.{arith}
 use borrow.Author.Rules.{rules}
 use lib.ListN.{length, get_or, drop}
-use Rattle.operand.proofs.Laws.{positive, word_end, word-zero, word-other, word_more}
+use Rattle.operand.proofs.Laws.{positive, word_end, word_zero, word_other, word_more}
 use Rattle.operand.specs.Operand.{word}
 use Rattle.digits.proofs.Digits.{inside}
 use Rattle.operand.proofs.read_word.Goals as goal
@@ -13,11 +13,11 @@ pub loop-j-init : goal.loop-j-init
 loop-j-init c = (refl, search rules)
 
 pub returns-then-b-eq0 : goal.returns-then-b-eq0
-returns-then-b-eq0 c = sym (word-zero _ _ _ _ c.loop-j-test.true c.if-b-eq0.true) ∙ c.loop-j.invariant.0
+returns-then-b-eq0 c = sym (word_zero _ _ _ _ c.loop-j-test.true c.if-b-eq0.true) ∙ c.loop-j.invariant.0
 
 pub returns-then-byte_at-b : goal.returns-then-byte_at-b
 returns-then-byte_at-b c =
-    sym (word-other _ _ _ _ c.loop-j-test.true c.if-b-eq0.false (λ y. c.if-byte_at-b.true (c.byte_at.ensures ∙ y)))
+    sym (word_other _ _ _ _ c.loop-j-test.true c.if-b-eq0.false (λ y. c.if-byte_at-b.true (c.byte_at.ensures ∙ y)))
     ∙ c.loop-j.invariant.0
 
 -- where the word goes on, its byte is not 0

@@ -3,7 +3,7 @@ use Prim.Native.Nat.{◌-◌, ◌≤◌, ◌<◌}
 use native.Mathlib.Omega.{arith}
 use borrow.Author.Rules.{rules}
 use lib.ListN.{length, get_or, drop}
-use Rattle.operand.proofs.Laws.{positive, word_end, word-zero, word-other, word_more}
+use Rattle.operand.proofs.Laws.{positive, word_end, word_zero, word_other, word_more}
 use Rattle.operand.specs.Operand.{word}
 use Rattle.digits.proofs.Digits.{inside}
 use Rattle.operand.proofs.read_word.Given as goal

@@ -42,7 +42,7 @@ use denote.Triple.Walked.{says, Stays, stay_none_slice, gave_slice, walk_of, Goe
 use denote.Exit.{yes}
 use Rattle.walks.proofs.Freed.{freed}
 use Rattle.walks.proofs.Walked.{meets}
-use Rattle.machine.proofs.Stepping.{SteppingAnew, calls-step-anew}
+use Rattle.machine.proofs.Stepping.{SteppingAnew, calls_step_anew}
 use Rattle.machine.proofs.step.Symbol as step_def
 use Rattle.machine.proofs.step.Symbol.{name as #step}
 use Rattle.machine.proofs.step.Met as step_thm
@@ -57,7 +57,7 @@ use Rattle.writes.specs.declared.Write.{Write}
 use Rattle.outside.specs.Call.{lent, called}
 use Rattle.outside.specs.contracts.Call as P
 use Rattle.outside.proofs.Call.TheLaws as P'
-use Rattle.outside.proofs.Steps.{numbers_at, CallOf, PutDone, calls-call-of, calls-put-done}
+use Rattle.outside.proofs.Steps.{numbers_at, CallOf, PutDone, calls_call_of, calls_put_done}
 use Rattle.outside.proofs.Leaves.{leaves}
 use Rattle.outside.proofs.call_of.Symbol as call_of_def
 use Rattle.outside.proofs.call_of.Symbol.{name as #call-of}
@@ -213,7 +213,7 @@ module _ {M : Type 1} {𝓤 : Ura M} (𝓛 : Logic 𝓤) (at_mem : Memory → SP
           (lends_shared u32 κ₀ (ν ∷ []) q₀ γ₀ b₀ o₀ ss 𝓛 (named 0) (named 0)) $ await ! tt $ pick ! (λ δ. split ! $
           -- [the image; the lender's part; ν's token; asked; asked; the list's token; the list; asked's token; answer's; answer; _15 (10); …]
           move ! (2 ∷ 7 ∷ 0 ∷ 3 ∷ []) $
-          calls-call-of ! fm at_mem run known-call-of (ν ∷ []) full_share κ₂ q₂ (numbers_at b₀ o₀ δ ss) x₂ (length an) room₃.0
+          calls_call_of ! fm at_mem run known-call-of (ν ∷ []) full_share κ₂ q₂ (numbers_at b₀ o₀ δ ss) x₂ (length an) room₃.0
           (and_then ! (load ! (from ! (stop !)) (look ! 21 refl)) (and_then ! (load ! (from ! (stop !)) (look ! 31 refl))
           (and_then ! (load ! (from ! (stop !)) (look ! 19 refl)) (no_more !)))) (λ c e₀ is_c.
           let gc = LL.owed P.the_type P'.the_laws c _ is_c in
@@ -227,7 +227,7 @@ module _ {M : Type 1} {𝓤 : Ura M} (𝓛 : Logic 𝓤) (at_mem : Memory → SP
           (and_then ! (load ! (from ! (fld ! refl (stop !))) (look_in ! 34 (sub ! 1 refl (whole !)))) (no_more !))))
           (from ! (stop !)) (init ! 16 refl (tt, (tt, (record { fits = room₁.0 }, tt)))) $
           -- the offsets in the call are written out, since found by antt they are large terms
-          move ! (4 ∷ 5 ∷ []) $ calls-step-anew ! fm at_mem run Known-step κ₁ q₁ b₁ o₁ γ₁ ws c.machine c.step gc.1.0 gc.1.1.0
+          move ! (4 ∷ 5 ∷ []) $ calls_step_anew ! fm at_mem run Known-step κ₁ q₁ b₁ o₁ γ₁ ws c.machine c.step gc.1.0 gc.1.1.0
           (and_then ! (load ! (from ! (fld ! {τ = Q'.mir} {d = 4} refl (stop !))) (look_in ! 27 (sub ! {τs = parts} 1 {τ = Q'.mir} {d = 4} refl (whole !))))
           (and_then ! (load ! (from ! (stop !)) (look ! 15 refl))
           (and_then ! (load ! (from ! (fld ! {τ = S'.mir} {d = 4644} refl (stop !)))
@@ -245,7 +245,7 @@ module _ {M : Type 1} {𝓤 : Ura M} (𝓛 : Logic 𝓤) (at_mem : Memory → SP
           (and_then ! (load ! (from ! (fld ! refl (stop !))) (look_in ! 30 (sub ! 1 refl (whole !)))) (no_more !))))
           (from ! (stop !)) (init ! 8 refl (tt, (tt, (record { fits = room₃.0 }, tt)))) $
           move ! (3 ∷ 6 ∷ 2 ∷ 7 ∷ []) $
-          calls-put-done ! fm at_mem run known-put-done κ₀ q₀ κ₃ q₃ b₀ o₀ γ₀ ss b₃ o₃ γ₃ an c.number d gc.0 is-d
+          calls_put_done ! fm at_mem run known-put-done κ₀ q₀ κ₃ q₃ b₀ o₀ γ₀ ss b₃ o₃ γ₃ an c.number d gc.0 is-d
           (and_then ! (load ! (from ! (stop !)) (look ! 9 refl)) (and_then ! (load ! (from ! (stop !)) (look ! 5 refl))
           (and_then ! (load ! (from ! (fld ! {τ = number} {d = 0} refl (stop !))) (look_in ! 25 (sub ! {τs = parts} 0 {τ = number} {d = 0} refl (whole !))))
           (and_then ! (load ! (from ! (stop !)) (look ! 23 refl)) (no_more !))))) (λ r ss' an' e₃ is-r n₀ n₃.

@@ -40,8 +40,8 @@ use Rattle.fault.proofs.part_at_fault.Symbol as part_def
 use Rattle.fault.proofs.part_at_fault.Symbol.{name as #part}
 use Rattle.fault.proofs.part_at_fault.Met as part_thm
 use Rattle.reader.specs.declared.Reader.{Reader}
-use Rattle.walks.proofs.Calling.{Met, Had, one, enters, asks, leaves, calls-told}
-use Rattle.reader.proofs.Held.{spelled, B, S, reader-tells, text_out, typed}
+use Rattle.walks.proofs.Calling.{Met, Had, one, enters, asks, leaves, calls_told}
+use Rattle.reader.proofs.Held.{spelled, B, S, reader_tells, text_out, typed}
 use Rattle.reader.proofs.Reader.TheLaws as T'
 use Rattle.reader.specs.contracts.fault.Key.{name as #key}
 use Rattle.reader.specs.contracts.fault as f
@@ -102,7 +102,7 @@ module _ {M : Type 1} {𝓤 : Ura M} (𝓛 : Logic 𝓤) (mem : Memory → SProp
         use1 𝓛 (‵ OwnS ⊛ ‵ Own) (text_out κ 𝓛 d) $ split ! $ move ! (2 ∷ 0 ∷ []) $
         use2 𝓛 (raw ((Met 𝓛 part.ended (part.clauses 𝓛 mem run)).pre to)) (asks 𝓛 had κ q OwnS) $
         -- [pre; what the reader owns; _3 (2); …; _k (8 - 2 k); …]
-        calls-told ! fm part.ended (part.clauses 𝓛 mem run) known to (‵ (flft κ q)) (fst∗ 𝓤 _ (emp 𝓤))
+        calls_told ! fm part.ended (part.clauses 𝓛 mem run) known to (‵ (flft κ q)) (fst∗ 𝓤 _ (emp 𝓤))
         (λ r. r.now ≡ part_of d.text.now why) (λ r ws. id⊢ 𝓤 _)
         (and_then ! (load ! (from ! (stop !)) (look ! 2 refl)) (and_then ! (load ! (from ! (stop !)) (look ! 4 refl)) (no_more !)))
         (λ u r e p.
@@ -120,7 +120,7 @@ module _ {M : Type 1} {𝓤 : Ura M} (𝓛 : Logic 𝓤) (mem : Memory → SProp
       let why = Goes-none 𝓛 1 (λ _. U.the_row) yes (λ κs x f. refl) in
       meets 𝓛 f.ended stayed (reader, (why, tt))
       (f.clauses 𝓛 mem run) code.function 𝓣 (λ κs. (λ d. T'.lowered d ∷ [], (EL.vals U.the_type U'.the_laws, tt)))
-      (λ κs. (reader-tells κs.0, (EL.tells U.the_type U'.the_laws, tt)))
+      (λ κs. (reader_tells κs.0, (EL.tells U.the_type U'.the_laws, tt)))
       (λ κs qs bounds a g are. walk 𝓛 mem run κs.0 qs.0 a.0 a.1.0 are.0 are.1.0 𝓣.C
       𝓣.Λ (fm_of 𝓤 H 𝓛.laws 𝓣) known)
 

@@ -35,8 +35,8 @@ use Rattle.fault.specs.declared.Refusal.{Refusal}
 use Rattle.fault.specs.contracts.Refusal as U
 use Rattle.fault.proofs.Refusal.TheLaws as U'
 use Rattle.fault.specs.Refusal.{part_of}
-use Rattle.walks.proofs.Calling.{Met, Had, none, one, enters, asks, leaves, calls-told, calls-known}
-use Rattle.reader.proofs.Held.{at_place, is_at, spelled, B, S, reader-tells, typed-local}
+use Rattle.walks.proofs.Calling.{Met, Had, none, one, enters, asks, leaves, calls_told, calls_known}
+use Rattle.reader.proofs.Held.{at_place, is_at, spelled, B, S, reader_tells, typed_local}
 use Rattle.reader.proofs.Reader.TheLaws as T'
 use Rattle.reader.specs.contracts.on as on
 use Rattle.reader.proofs.on.Symbol as on_def
@@ -109,13 +109,13 @@ module _ {M : Type 1} {𝓤 : Ura M} (𝓛 : Logic 𝓤) (mem : Memory → SProp
         move ! (2 ∷ 0 ∷ []) $ use2 𝓛 (raw ((Met 𝓛 on.ended (on.clauses 𝓛 mem run)).pre to-on)) (asks 𝓛 (none 𝓛) κ q Own) $
         -- [pre; what the text owns; _3 (2); …; _k (8 - 2 k); …], and after each call [what the result owns; the token; what the text owns;
         -- _3 (3); …]
-        calls-known ! fm on.ended (on.clauses 𝓛 mem run) known_on to-on (‵ (flft κ q)) (fst∗ 𝓤 _ (emp 𝓤))
+        calls_known ! fm on.ended (on.clauses 𝓛 mem run) known_on to-on (‵ (flft κ q)) (fst∗ 𝓤 _ (emp 𝓤))
         (λ r. (r.text ≡ s) × (r.at ≡ 0)) (λ r ws. id⊢ 𝓤 _) (and_then ! (load ! (from ! (stop !)) (look ! 6 refl)) (no_more !))
-        T'.lowered (reader-tells κ) (at_place s 0) (is_at s 0) (λ p.
-        land ! (from ! (stop !)) (init ! 3 refl (typed-local κ 𝓛 (at_place s 0) p)) $
+        T'.lowered (reader_tells κ) (at_place s 0) (is_at s 0) (λ p.
+        land ! (from ! (stop !)) (init ! 3 refl (typed_local κ 𝓛 (at_place s 0) p)) $
         move ! (1 ∷ 0 ∷ []) $ use2 𝓛 (raw ((Met 𝓛 part.ended (part.clauses 𝓛 mem run)).pre to_part))
         (asks 𝓛 had κ q OwnR) $
-        calls-told ! fm part.ended (part.clauses 𝓛 mem run) known-part to_part (‵ (flft κ q)) (fst∗ 𝓤 _ (emp 𝓤))
+        calls_told ! fm part.ended (part.clauses 𝓛 mem run) known-part to_part (‵ (flft κ q)) (fst∗ 𝓤 _ (emp 𝓤))
         (λ r. r.now ≡ part_of s.now why) (λ r ws. id⊢ 𝓤 _)
         (and_then ! (load ! (from ! (stop !)) (look ! 2 refl)) (and_then ! (load ! (from ! (stop !)) (look ! 4 refl)) (no_more !)))
         (λ u r e p₁.

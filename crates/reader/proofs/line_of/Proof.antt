@@ -39,8 +39,8 @@ use Rattle.line.specs.Row.{read_line}
 use Rattle.line.specs.declared.LineRead.{LineRead}
 use Rattle.line.specs.contracts.LineRead as N
 use Rattle.line.proofs.LineRead.TheLaws as N'
-use Rattle.walks.proofs.Calling.{Met, Had, none, one, two, enters, asks, leaves, calls-told, calls-known}
-use Rattle.reader.proofs.Held.{at_place, is_at, spelled, B, S, reader-tells, typed-local}
+use Rattle.walks.proofs.Calling.{Met, Had, none, one, two, enters, asks, leaves, calls_told, calls_known}
+use Rattle.reader.proofs.Held.{at_place, is_at, spelled, B, S, reader_tells, typed_local}
 use Rattle.reader.proofs.Reader.TheLaws as T'
 use Rattle.reader.specs.contracts.on as on
 use Rattle.reader.proofs.on.Symbol as on_def
@@ -133,20 +133,20 @@ module _ {M : Type 1} {𝓤 : Ura M} (𝓛 : Logic 𝓤) (mem : Memory → SProp
         move ! (2 ∷ 0 ∷ []) $ use2 𝓛 (raw ((Met 𝓛 on.ended (on.clauses 𝓛 mem run)).pre to-on)) (asks 𝓛 (none 𝓛) κ q Own) $
         -- [pre; what the text owns; _5 (2); …; _k (12 - 2 k); …], and after each call [what the result owns; the token; what the text
         -- owns; _5 (3); …]
-        calls-known ! fm on.ended (on.clauses 𝓛 mem run) known_on to-on (‵ (flft κ q)) (fst∗ 𝓤 _ (emp 𝓤))
+        calls_known ! fm on.ended (on.clauses 𝓛 mem run) known_on to-on (‵ (flft κ q)) (fst∗ 𝓤 _ (emp 𝓤))
         (λ r. (r.text ≡ s) × (r.at ≡ 0)) (λ r ws. id⊢ 𝓤 _) (and_then ! (load ! (from ! (stop !)) (look ! 10 refl)) (no_more !))
-        T'.lowered (reader-tells κ) (at_place s 0) (is_at s 0) (λ p.
-        land ! (from ! (stop !)) (init ! 3 refl (typed-local κ 𝓛 (at_place s 0) p)) $
+        T'.lowered (reader_tells κ) (at_place s 0) (is_at s 0) (λ p.
+        land ! (from ! (stop !)) (init ! 3 refl (typed_local κ 𝓛 (at_place s 0) p)) $
         move ! (1 ∷ 0 ∷ []) $ use2 𝓛 (raw ((Met 𝓛 moved.ended (moved.clauses 𝓛 mem run)).pre to-moved))
         (asks 𝓛 place κ q (OwnR 0)) $
-        calls-known ! fm moved.ended (moved.clauses 𝓛 mem run) known-moved to-moved (‵ (flft κ q)) (fst∗ 𝓤 _ (emp 𝓤))
+        calls_known ! fm moved.ended (moved.clauses 𝓛 mem run) known-moved to-moved (‵ (flft κ q)) (fst∗ 𝓤 _ (emp 𝓤))
         (λ r. (r.text ≡ s) × (r.at ≡ n)) (λ r ws. id⊢ 𝓤 _) (and_then ! (load ! (from ! (stop !)) (look ! 2 refl))
         (and_then ! (load ! (from ! (stop !)) (look ! 8 refl)) (no_more !)))
-        T'.lowered (reader-tells κ) (at_place s n) (is_at s n) (λ p₁.
-        land ! (from ! (stop !)) (init ! 5 refl (typed-local κ 𝓛 (at_place s n) p₁)) $
+        T'.lowered (reader_tells κ) (at_place s n) (is_at s n) (λ p₁.
+        land ! (from ! (stop !)) (init ! 5 refl (typed_local κ 𝓛 (at_place s n) p₁)) $
         move ! (1 ∷ 0 ∷ []) $ use2 𝓛 (raw ((Met 𝓛 next.ended (next.clauses 𝓛 mem run)).pre to-next)) (asks 𝓛 asked κ q
         (OwnR n)) $
-        calls-told ! fm next.ended (next.clauses 𝓛 mem run) known_next to-next (‵ (flft κ q)) (fst∗ 𝓤 _ (emp 𝓤))
+        calls_told ! fm next.ended (next.clauses 𝓛 mem run) known_next to-next (‵ (flft κ q)) (fst∗ 𝓤 _ (emp 𝓤))
         (λ r. r ≡ read_line due s.now n) (λ r ws. id⊢ 𝓤 _)
         (and_then ! (load ! (from ! (stop !)) (look ! 4 refl)) (and_then ! (load ! (from ! (stop !)) (look ! 6 refl)) (no_more !)))
         (λ u r e p₂.

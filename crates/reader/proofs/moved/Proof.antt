@@ -30,7 +30,7 @@ use Rattle.walks.proofs.Freed.{freed}
 use Rattle.walks.proofs.Walked.{meets}
 use Rattle.reader.specs.declared.Reader.{Reader}
 use Rattle.walks.proofs.Calling.{one, leaves}
-use Rattle.reader.proofs.Held.{at_place, spelled, B, S, reader-tells, text_out, held, typed}
+use Rattle.reader.proofs.Held.{at_place, spelled, B, S, reader_tells, text_out, held, typed}
 use Rattle.reader.proofs.Reader.TheLaws as T'
 use Rattle.reader.specs.contracts.moved.Key.{name as #key}
 use Rattle.reader.specs.contracts.moved as f
@@ -93,7 +93,7 @@ module _ {M : Type 1} {𝓤 : Ura M} (𝓛 : Logic 𝓤) (mem : Memory → SProp
       let place = Goes-none 𝓛 1 (λ _. usize) yes (λ κs x f. refl) in
       meets 𝓛 f.ended stayed (reader, (place, tt))
       (f.clauses 𝓛 mem run) code.function 𝓣 (λ κs. (λ d. T'.lowered d ∷ [], (uint_vals w64, tt)))
-      (λ κs. (reader-tells κs.0, (uint_Tells w64, tt)))
+      (λ κs. (reader_tells κs.0, (uint_Tells w64, tt)))
       (λ κs qs bounds a g are. walk 𝓛 mem run κs.0 qs.0 a.0 a.1.0 are.1.0.1 𝓣.C
       𝓣.Λ (typed κs.0 𝓛 a.0 are.0))
 

@@ -41,8 +41,8 @@ use Rattle.line.proofs.read_line.Symbol as line_def
 use Rattle.line.proofs.read_line.Symbol.{name as #line}
 use Rattle.line.proofs.read_line.Met as line_thm
 use Rattle.reader.specs.declared.Reader.{Reader}
-use Rattle.walks.proofs.Calling.{Met, Had, one, two, enters, asks, leaves, calls-told}
-use Rattle.reader.proofs.Held.{spelled, B, S, reader-tells, text_out, typed}
+use Rattle.walks.proofs.Calling.{Met, Had, one, two, enters, asks, leaves, calls_told}
+use Rattle.reader.proofs.Held.{spelled, B, S, reader_tells, text_out, typed}
 use Rattle.reader.proofs.Reader.TheLaws as T'
 use Rattle.reader.specs.contracts.next_line.Key.{name as #key}
 use Rattle.reader.specs.contracts.next_line as f
@@ -108,7 +108,7 @@ module _ {M : Type 1} {𝓤 : Ura M} (𝓛 : Logic 𝓤) (mem : Memory → SProp
         (asks 𝓛 (two 𝓛 usize (uint_Makes 𝓛 w64) d.at (vint w64 d.at ∷ []) (refl, wt.1.1.0.fits) U.the_row
         (EL.makes U.the_type U'.the_plain 𝓛) due (vd ∷ []) gu) κ q OwnS) $
         -- [pre; what the reader owns; _4 (2); …; _k (10 - 2 k); …]
-        calls-told ! fm line.ended (line.clauses 𝓛 mem run) known to (‵ (flft κ q)) (fst∗ 𝓤 _ (emp 𝓤))
+        calls_told ! fm line.ended (line.clauses 𝓛 mem run) known to (‵ (flft κ q)) (fst∗ 𝓤 _ (emp 𝓤))
         (λ r. r ≡ read_line due d.text.now d.at) (λ r ws. id⊢ 𝓤 _)
         (and_then ! (load ! (from ! (stop !)) (look ! 4 refl)) (and_then ! (load ! (from ! (stop !)) (look ! 2 refl))
         (and_then ! (load ! (from ! (stop !)) (look ! 6 refl)) (no_more !)))) (λ u r e p.
@@ -126,7 +126,7 @@ module _ {M : Type 1} {𝓤 : Ura M} (𝓛 : Logic 𝓤) (mem : Memory → SProp
       let due = Goes-none 𝓛 1 (λ _. U.the_row) yes (λ κs x f. refl) in
       meets 𝓛 f.ended stayed (reader, (due, tt))
       (f.clauses 𝓛 mem run) code.function 𝓣 (λ κs. (λ d. T'.lowered d ∷ [], (EL.vals U.the_type U'.the_laws, tt)))
-      (λ κs. (reader-tells κs.0, (EL.tells U.the_type U'.the_laws, tt)))
+      (λ κs. (reader_tells κs.0, (EL.tells U.the_type U'.the_laws, tt)))
       (λ κs qs bounds a g are. walk 𝓛 mem run κs.0 qs.0 a.0 a.1.0 are.0 are.1.0 𝓣.C
       𝓣.Λ (fm_of 𝓤 H 𝓛.laws 𝓣) known)
 

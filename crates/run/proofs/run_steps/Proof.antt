@@ -46,7 +46,7 @@ use denote.Triple.Table.{entered}
 use denote.Triple.Walked.{says, Stays, stay_none, stay_none_slice, stay_slice, walk_of, Goes-none, Goes-none_slice, Goes-slice, Walks, ends_at}
 use denote.Triple.Walked.{walked, walk_Meets}
 use denote.Exit.{yes}
-use Rattle.machine.proofs.Stepping.{calls-step, machine_val}
+use Rattle.machine.proofs.Stepping.{calls_step, machine_val}
 use Rattle.rules.specs.contracts.Done as D
 use Rattle.rules.proofs.Done.TheLaws as D'
 use Rattle.step.proofs.Answer.TheLaws as R'
@@ -60,7 +60,7 @@ use Rattle.state.specs.contracts.Machine as Q
 use Rattle.state.proofs.Machine.TheLaws as Q'
 use Rattle.state.specs.declared.Machine.{Machine}
 use Rattle.walks.proofs.Again.{LentAgain, lends_again, comes_back}
-use Rattle.walks.proofs.Arrays.{to-cells, from-cells, big-lit}
+use Rattle.walks.proofs.Arrays.{to_cells, from_cells, big_lit}
 use Rattle.writes.proofs.Lent.{lent_at, write_vals}
 use Rattle.writes.specs.contracts.Write as T
 use Rattle.writes.proofs.Write.TheLaws as T'
@@ -70,9 +70,9 @@ use Rattle.run.specs.Ends.{Ends}
 use Rattle.run.specs.Run.{Run, ran}
 use Rattle.turn.specs.Going.{asks}
 use Rattle.turn.specs.declared.Ended.{Ended}
-use Rattle.run.proofs.Runs.{way-begins, way-ends, way-goes}
-use Rattle.run.proofs.Turns.{Row, list_val, section_val, going_val, ended_val, State, is-asked, many, write_tells, room-w, room-b, Known}
-use Rattle.run.proofs.Turns.{given-machine, given-answer, write-makes, row_lawful, knows, calls-no-writes, calls-begin, calls-go-on, calls-finish}
+use Rattle.run.proofs.Runs.{way_begins, way_ends, way_goes}
+use Rattle.run.proofs.Turns.{Row, list_val, section_val, going_val, ended_val, State, is_asked, many, write_tells, room_w, room_b, Known}
+use Rattle.run.proofs.Turns.{given_machine, given_answer, write_makes, row_lawful, knows, calls_no_writes, calls_begin, calls_go_on, calls_finish}
 use Rattle.turn.specs.contracts.Ended as F
 use Rattle.turn.proofs.Ended.TheLaws as F'
 use Rattle.turn.specs.contracts.Going as G
@@ -212,19 +212,19 @@ module _ {M : Type 1} {𝓤 : Ura M} (𝓛 : Logic 𝓤) (at_mem : Memory → SP
           -- the list is lent as a slice for ν
           assigns ! (addr ! (from ! (stop !))) (from ! (stop !)) (init ! 10 refl (tt, tt)) $
           assigns ! (agg ! (and_then ! (load ! (from ! (stop !)) (look ! 10 refl))
-          (and_then ! (big-lit ! (record { fits = lit< tt })) (no_more !))))
+          (and_then ! (big_lit ! (record { fits = lit< tt })) (no_more !))))
           (from ! (stop !)) (init ! 8 refl (tt, (tt, (record { fits = lit< tt }, tt)))) $
           rewrite ! 8 (λ (k : ℕ). ‵ (fat full_share list l₁₁ 0 (slice_val (l₅, 0) k))) (sym (many s)) refl $
           move ! (20 ∷ []) $ use1 𝓛 (‵ (cells (mem T.the_row) s.ws l₅ 0))
-          (to-cells 𝓛 T.the_row tt 1024 write_vals write_tells (write-makes 𝓛) l₅ s.ws s.is_ws) $
+          (to_cells 𝓛 T.the_row tt 1024 write_vals write_tells (write_makes 𝓛) l₅ s.ws s.is_ws) $
           lft_new ! tt (λ ν. move ! (1 ∷ []) $ use1 𝓛 (later (some (λ (δ : GName).
           ‵ ((MutSlice (named 0) (ν ∷ []) T.the_row).own_val (lent_at l₅ 0 δ s.ws) (slice_val (l₅, 0) (length s.ws) ∷ []))
           ⊛ ‵ (flent (ν ∷ []) (Held T.the_row (length s.ws) l₅ 0 δ)))))
-          (lends_slice 𝓛 T.the_row (named 0) (ν ∷ []) s.ws l₅ 0 (room-w s)) $ await ! tt $ Kit.pick ! (λ δ. split ! $
+          (lends_slice 𝓛 T.the_row (named 0) (ν ∷ []) s.ws l₅ 0 (room_w s)) $ await ! tt $ Kit.pick ! (λ δ. split ! $
           move ! (2 ∷ 0 ∷ []) $
           -- [ν's token; the slice; the lender's part; the tokens; text; out; _13; …; that _5 dies; _4; …]
           -- the offsets are written out, since found by antt they are large terms
-          calls-step ! fm at_mem run known.step (ν ∷ []) full_share l₅ 0 δ s.ws s.m s.g.ahead.asked s.is_m (is-asked s)
+          calls_step ! fm at_mem run known.step (ν ∷ []) full_share l₅ 0 δ s.ws s.m s.g.ahead.asked s.is_m (is_asked s)
           (and_then ! (load ! (from ! (stop !)) (look ! 25 refl))
           (and_then ! (load ! (from ! (stop !)) (look ! 10 refl))
           (and_then ! (load ! (from ! (fld ! {τ = A''.mir} {d = 0} refl (fld ! {τ = S'.mir} {d = 4} refl (stop !))))
@@ -236,10 +236,10 @@ module _ {M : Type 1} {𝓤 : Ura M} (𝓛 : Logic 𝓤) (at_mem : Memory → SP
           lft_end ! tt $ move ! (0 ∷ 2 ∷ 1 ∷ []) $ use3 𝓛 (later (‵ ((Arr (mem T.the_row) (length s.ws)).own_at us l₅ 0)))
           (slice_back 𝓛 T.the_row (ν ∷ []) δ us (length s.ws) l₅ 0) $ await ! tt $ fsplit ! $ drop ! $
           use1 𝓛 (given (Is Row us (list_val us ∷ [])) (‵ (fat full_share arr l₅ 0 (list_val us))))
-          (from-cells 𝓛 T.the_row tt 1024 write_vals write_tells (write-makes 𝓛) l₅ us (l ∙ many s)) $ learn ! (λ is_us.
+          (from_cells 𝓛 T.the_row tt 1024 write_vals write_tells (write_makes 𝓛) l₅ us (l ∙ many s)) $ learn ! (λ is_us.
           move ! (1 ∷ 2 ∷ 3 ∷ 4 ∷ 5 ∷ 6 ∷ 7 ∷ 8 ∷ 9 ∷ 10 ∷ 11 ∷ 12 ∷ 13 ∷ 14 ∷ 15 ∷ 16 ∷ 17 ∷ 18 ∷ 19 ∷ 20 ∷ []) $
           assigns ! (of_opd ! (load ! (from ! (fld ! {τ = Q'.mir} {d = 8} refl (stop !))) (look_in ! 16 (sub ! 1 {τ = Q'.mir} {d = 8} refl (whole !)))))
-          (from ! (stop !)) (store ! 24 refl ((LL.lawful Q.the_type Q'.the_laws 𝓛).typed d.machine _ (given-machine d is-d)).0) $
+          (from ! (stop !)) (store ! 24 refl ((LL.lawful Q.the_type Q'.the_laws 𝓛).typed d.machine _ (given_machine d is-d)).0) $
           -- the buffer is lent again for ν'
           assigns ! (addr ! (from ! (fld ! refl (hop ! (look_in ! 22 (sub ! 0 refl (whole !))) (stop !))))) (from ! (stop !))
           (init ! 6 refl (tt, tt)) $
@@ -254,19 +254,19 @@ module _ {M : Type 1} {𝓤 : Ura M} (𝓛 : Logic 𝓤) (at_mem : Memory → SP
           (lends_again u8 κ' (ν' ∷ []) q' γ b o 𝓛 (named 1) (named 1) s.bs) $ await ! tt $ Kit.pick ! (λ δ'. split ! $
           move ! (5 ∷ 2 ∷ 3 ∷ 0 ∷ []) $
           -- [text's token; ν''s; text; the slice; the lender's part; text; _13; …]
-          calls-go-on ! fm at_mem run known.go_on κ q x (ν' ∷ []) full_share b o δ' s.bs s.g d.answer s.is_g (given-answer d is-d)
+          calls_go_on ! fm at_mem run known.go_on κ q x (ν' ∷ []) full_share b o δ' s.bs s.g d.answer s.is_g (given_answer d is-d)
           (and_then ! (load ! (from ! (stop !)) (look ! 27 refl)) (and_then ! (load ! (from ! (stop !)) (look ! 3 refl))
           (and_then ! (load ! (from ! (stop !)) (look ! 17 refl))
           (and_then ! (load ! (from ! (fld ! {τ = R'.mir} {d = 0} refl (stop !))) (look_in ! 15 (sub ! 0 {τ = R'.mir} {d = 0} refl (whole !)))) (no_more !)))))
           (λ r bs on l' is-r.
           -- [text's token; ν''s; the last bytes; the lender's part; text; _13; …]: ν' is ended, and the buffer is back
           move ! (1 ∷ []) $ lft_end ! tt $ move ! (0 ∷ 3 ∷ 2 ∷ []) $ use3 𝓛 (later (‵ (Out bs (u s.bs)) ⊛ ‵ (flft κ' q')))
-          (comes_back u8 κ' (ν' ∷ []) q' γ b o 𝓛 (named 1) (named 1) s.bs δ' bs (room-b s room-o) l') $ await ! tt $ split ! $
+          (comes_back u8 κ' (ν' ∷ []) q' γ b o 𝓛 (named 1) (named 1) s.bs δ' bs (room_b s room-o) l') $ await ! tt $ split ! $
           rewrite ! 0 (λ (k : ℕ). ‵ (Out bs (slice_val (b, o) k))) (sym l') refl $ move ! (2 ∷ 1 ∷ 3 ∷ 0 ∷ []) $
           land_last ! (from ! (stop !)) (store ! 18 refl ((LL.lawful G.the_type G'.the_laws 𝓛).typed r _ is-r).0) $
           forget ! 4 refl $ forget ! 6 refl $ forget ! 8 refl $ forget ! 10 refl $ forget ! 12 refl $ forget ! 16 refl $
-          let next = way-goes s.way e done-by on in
-          again ! ≺ I s (record { m = d.machine; g = r; ws = us; bs = bs; is_m = given-machine d is-d; is_g = is-r; is_ws = is_us; as_long = l' ∙ s.as_long; way = next.0 })
+          let next = way_goes s.way e done-by on in
+          again ! ≺ I s (record { m = d.machine; g = r; ws = us; bs = bs; is_m = given_machine d is-d; is_g = is-r; is_ws = is_us; as_long = l' ∙ s.as_long; way = next.0 })
           next.1)))))))
 
       -- no step is ahead
@@ -279,7 +279,7 @@ module _ {M : Type 1} {𝓤 : Ura M} (𝓛 : Logic 𝓤) (at_mem : Memory → SP
           leaves_loop ! (load ! (from ! (stop !)) (look ! 12 refl)) $ exec ! C Λ E mir.t-5 (at_ret E Post) $
           assigns ! (of_opd ! (load ! (from ! (stop !)) (look ! 20 refl))) (from ! (stop !))
           (init ! 14 refl ((row_lawful 𝓛).typed s.ws _ s.is_ws).0) $
-          calls-finish ! fm at_mem run known.finish s.m s.g s.ws s.is_m s.is_g s.is_ws
+          calls_finish ! fm at_mem run known.finish s.m s.g s.ws s.is_m s.is_g s.is_ws
           (and_then ! (load ! (from ! (stop !)) (look ! 25 refl)) (and_then ! (load ! (from ! (stop !)) (look ! 19 refl)) (and_then ! (load ! (from ! (stop !)) (look ! 15 refl)) (no_more !))))
           (λ r ended is-r.
           land ! (from ! (stop !)) (init ! 30 refl ((LL.lawful F.the_type F'.the_laws 𝓛).typed r _ is-r).0) $
@@ -291,7 +291,7 @@ module _ {M : Type 1} {𝓤 : Ura M} (𝓛 : Logic 𝓤) (at_mem : Memory → SP
           move ! (12 ∷ 13 ∷ []) $ free1 ! $ move ! (10 ∷ 11 ∷ []) $ free1 ! $ move ! (8 ∷ 9 ∷ []) $ free1 ! $
           move ! (6 ∷ 7 ∷ []) $ free1 ! $ move ! (4 ∷ 5 ∷ []) $ free1 ! $ free0 ! $
           rewrite ! 3 (λ (k : ℕ). ‵ (Out s.bs (slice_val (b, o) k))) s.as_long refl $
-          by ! (exits s.bs r s.as_long (subst (λ (j : Ended). Ends the-run os j s.bs) (sym ended) (way-ends s.way e)) is-r))
+          by ! (exits s.bs r s.as_long (subst (λ (j : Ended). Ends the-run os j s.bs) (sym ended) (way_ends s.way e)) is-r))
 
       turn : (s : State t the-run os) (c : Bool) → s.g.ahead.on ≡ c → Sq 𝓛 (I s) (runs C Λ E mir.turn-1 (Turn s))
       turn s true e = goes s e
@@ -313,18 +313,18 @@ module _ {M : Type 1} {𝓤 : Ura M} (𝓛 : Logic 𝓤) (at_mem : Memory → SP
           move ! (29 ∷ []) $ fsplit ! $ move ! (1 ∷ []) $ fsplit ! $ drop ! $ fsplit ! $ drop ! $ fsplit ! $ move ! (1 ∷ []) $ drop ! $
           move ! (30 ∷ []) $ split ! $ move ! (1 ∷ []) $ split ! $ move ! (1 ∷ []) $ drop ! $ move ! (1 ∷ 0 ∷ 3 ∷ 2 ∷ []) $
           -- [the tokens; what text owns; what out owns; _13 (4); …; _k (30 - 2 k); …]
-          calls-no-writes ! fm at_mem run known.no_writes (no_more !) (λ ws none is_ws.
+          calls_no_writes ! fm at_mem run known.no_writes (no_more !) (λ ws none is_ws.
           land ! (from ! (stop !)) (init ! 14 refl ((row_lawful 𝓛).typed ws _ is_ws).0) $
           assigns ! (of_opd ! (load ! (from ! (stop !)) (look ! 14 refl))) (from ! (stop !)) (init ! 20 refl ((row_lawful 𝓛).typed ws _ is_ws).0) $
           forget ! 14 refl $ move ! (2 ∷ []) $
           use1 𝓛 (‵ Text ⊛ ‵ Text) ((shr_slice_copy 𝓛 (named 0) κ u8).twice x (v ∷ [])) $ split ! $ move ! (2 ∷ 0 ∷ []) $
           -- [text's token; text; text; out's token; out; _13; …]
-          calls-begin ! fm at_mem run known.begin κ q x sec is-sec
+          calls_begin ! fm at_mem run known.begin κ q x sec is-sec
           (and_then ! (load ! (from ! (stop !)) (look ! 28 refl)) (and_then ! (load ! (from ! (stop !)) (look ! 26 refl)) (no_more !)))
           (λ g begins is_g.
           land ! (from ! (stop !)) (init ! 18 refl ((LL.lawful G.the_type G'.the_laws 𝓛).typed g _ is_g).0) $
           move ! (0 ∷ 2 ∷ 1 ∷ []) $ first ! $
-          let way = way-begins sec begins (ap (λ (k : List Write). ran m₀ k (steps_at t sec)) (sym none)) in
+          let way = way_begins sec begins (ap (λ (k : List Write). ran m₀ k (steps_at t sec)) (sym none)) in
           looping (record { m = m₀; g = g; ws = ws; bs = os; is_m = is-m₀; is_g = is_g; is_ws = is_ws; as_long = refl; way = way })))
 
     walk : ent 𝓤 (on_entry 𝓛 f.signature (κ, (κ', tt)) (q, (q', tt)) a at)

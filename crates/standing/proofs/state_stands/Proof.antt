@@ -48,9 +48,9 @@ use Rattle.state.specs.declared.Machine.{Machine}
 use Rattle.writes.specs.Searched.{sought_of, searched}
 use Rattle.writes.specs.declared.Query.{Query}
 use Rattle.writes.specs.declared.Write.{Write}
-use Rattle.standing.proofs.Found.{stands-found}
-use Rattle.writes.proofs.Calling.{calls-values}
-use Rattle.writes.proofs.Lent.{Search, calls-search, lent_at, query_vals}
+use Rattle.standing.proofs.Found.{stands_found}
+use Rattle.writes.proofs.Calling.{calls_values}
+use Rattle.writes.proofs.Lent.{Search, calls_search, lent_at, query_vals}
 use Rattle.state.specs.contracts.Machine as S
 use Rattle.state.proofs.Machine.TheLaws as S'
 use Rattle.writes.specs.contracts.Query as Q
@@ -90,7 +90,7 @@ qval = LL.val Q.the_type Q'.the_laws
 answered : (m : Machine) (ws : List Write) (h : ℕ) (q₀ q : Query) (r : Bool) → h ≡ m.held → q₀ ≡ sought_of (cells_of m) 0 0 0
     → q ≡ searched q₀ (take h ws)
     → r ≡ sizes_stand m (length ws) and (parts_stand m and q.looked.stand) → r ≡ stands m ws
-answered m ws h q₀ q r eh e₀ e er = er ∙ rw (e, e₀, eh) (stands-found m ws 0 0 0)
+answered m ws h q₀ q r eh e₀ e er = er ∙ rw (e, e₀, eh) (stands_found m ws 0 0 0)
 
 -- the three covered functions that are called
 module _ {M : Type 1} {𝓤 : Ura M} (𝓛 : Logic 𝓤) (mem : Memory → SProp 𝓤) (run : Routine → Fun 𝓤) where
@@ -211,20 +211,20 @@ module _ {M : Type 1} {𝓤 : Ura M} (𝓛 : Logic 𝓤) (at_mem : Memory → SP
           -- [the token; what ws owns, twice; _6 (3); …; _j (15 - 2 j); …]
           assigns ! (of_opd ! (load ! (from ! (fld ! refl (stop !))) (look_in ! 11 (sub ! 1 refl (whole !))))) (from ! (stop !))
           (init ! 9 refl (tt, record { fits = room.0 })) $
-          calls-values ! fm (HeldOf 𝓛 at_mem run) known-held to_held usize (uint_vals w64) (uint_Tells w64) (λ r. r ≡ m.held)
+          calls_values ! fm (HeldOf 𝓛 at_mem run) known-held to_held usize (uint_vals w64) (uint_Tells w64) (λ r. r ≡ m.held)
           (HeldEn 𝓛 at_mem run m)
           goes-held (λ v. id⊢ 𝓤 _) (of-held 𝓛 at_mem run m) (and_then ! (load ! (from ! (stop !)) (look ! 14 refl)) (no_more !)) (λ h eh ph.
           land ! (from ! (stop !)) (init ! 5 refl ((uint_Lawful 𝓛 w64).typed h _ ph).0) $
-          calls-values ! fm (AskedOf 𝓛 at_mem run) known-asked to-asked Q.the_row query_vals (LL.tells Q.the_type Q'.the_laws)
+          calls_values ! fm (AskedOf 𝓛 at_mem run) known-asked to-asked Q.the_row query_vals (LL.tells Q.the_type Q'.the_laws)
           (λ r. r ≡ sought_of (cells_of m) 0 0 0) (AskedEn 𝓛 at_mem run m) goes-asked (λ v. id⊢ 𝓤 _) (of-asked 𝓛 at_mem run m)
           (and_then ! (load ! (from ! (stop !)) (look ! 14 refl)) (no_more !)) (λ q₀ e₀ p₀.
           land ! (from ! (stop !)) (init ! 3 refl ((LL.lawful Q.the_type Q'.the_laws 𝓛).typed q₀ _ p₀).0) $
           -- from here on [the token or what is called; what ws owns; _6 (2); …; _j (14 - 2 j); …]
-          calls-search ! fm at_mem run known-search κ q b o γ ws h q₀ ph.1 p₀
+          calls_search ! fm at_mem run known-search κ q b o γ ws h q₀ ph.1 p₀
           (and_then ! (load ! (from ! (stop !)) (look ! 10 refl)) (and_then ! (load ! (from ! (stop !)) (look ! 4 refl))
           (and_then ! (load ! (from ! (stop !)) (look ! 2 refl)) (no_more !)))) (λ u e p.
           land ! (from ! (stop !)) (init ! 6 refl ((LL.lawful Q.the_type Q'.the_laws 𝓛).typed u _ p).0) $
-          calls-values ! fm (StandsBy 𝓛 at_mem run) known-stands (to-stands u) bool bool_vals bool_Tells (Judged 𝓛 at_mem run m n u)
+          calls_values ! fm (StandsBy 𝓛 at_mem run) known-stands (to-stands u) bool bool_vals bool_Tells (Judged 𝓛 at_mem run m n u)
           (StandsEn 𝓛 at_mem run m n u) (goes-stands u p) (λ v. id⊢ 𝓤 _) (of-stands 𝓛 at_mem run m n u)
           (and_then ! (load ! (from ! (stop !)) (look ! 13 refl)) (and_then ! (load ! (from ! (stop !)) (look ! 9 refl))
           (and_then ! (load ! (from ! (stop !)) (look ! 7 refl)) (no_more !)))) (λ r er pr.

@@ -7,7 +7,7 @@ use borrow.Author.Rules.{rules}
 use lib.ListN.{length, get_or, drop, length-set}
 use lib.Seq.{sets}
 use Rattle.form.specs.Text.{word_text}
-use Rattle.measure.proofs.Widths.{text-end, text-zero, text_more}
+use Rattle.measure.proofs.Widths.{text_end, text_zero, text_more}
 use Rattle.writer.proofs.write_word.Statement.{statement}
 use Rattle.writer.proofs.write_word.Tie as tie
 
@@ -31,7 +31,7 @@ same_length c = search rules
 returns : tie.Need-returns invariant-loop decreases-loop
 returns c =
     let l = c.before.before.before in
-    let e = text-zero l.before.args.w.now l.loop.j c.before.before.loop-test.true c.if1.true in
+    let e = text_zero l.before.args.w.now l.loop.j c.before.before.loop-test.true c.if1.true in
     record { next = omega (arith, ap length e); list = rw e at l.loop.invariant.0 }
 
 -- where the word goes on
@@ -61,7 +61,7 @@ same-length-2 c = search rules
 
 returns-2 : tie.Need-returns-2 invariant-loop decreases-loop
 returns-2 c =
-    let l = c.before in let e = text-end l.before.args.w.now l.loop.j c.loop-test.false in
+    let l = c.before in let e = text_end l.before.args.w.now l.loop.j c.loop-test.false in
     record { next = omega (arith, ap length e); list = rw e at l.loop.invariant.0 }
 
 pub write-word-spec : {M : Type 1} → statement M

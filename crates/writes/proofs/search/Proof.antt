@@ -50,7 +50,7 @@ use denote.Triple.Spec.{Meets, triple_of}
 use denote.Triple.Table.{entered, cited}
 use denote.Triple.Walked.{says, Stays, stay_none, stay_none_slice, walk_of, Goes-none, Goes-none_slice, ends_at}
 use denote.Exit.{yes}
-use Rattle.walks.proofs.Calling.{Met, two, asks-plain, calls-met}
+use Rattle.walks.proofs.Calling.{Met, two, asks_plain, calls_met}
 use Rattle.walks.proofs.Freed.{freed}
 use Rattle.walks.proofs.Walked.{meets}
 use Rattle.writes.specs.Records.{no_write, nth}
@@ -114,7 +114,7 @@ module _ {M : Type 1} {𝓤 : Ura M} (𝓛 : Logic 𝓤) (mem : Memory → SProp
   goes-look-at : (q : Query) (w : Write) → Is Q.the_row q (qval q ∷ []) → Is T.the_row w (vals w)
       → ent 𝓤 (emp 𝓤) (LookAt.pre (to-look-at q w))
   goes-look-at q w pq pw =
-      asks-plain 𝓛 (two 𝓛 Q.the_row (LL.makes Q.the_type Q'.the_plain 𝓛) q (qval q ∷ []) pq
+      asks_plain 𝓛 (two 𝓛 Q.the_row (LL.makes Q.the_type Q'.the_plain 𝓛) q (qval q ∷ []) pq
       T.the_row (LL.makes T.the_type T'.the_plain 𝓛) w (vals w) pw)
 
   abbrev Less : Contract 𝓤
@@ -125,7 +125,7 @@ module _ {M : Type 1} {𝓤 : Ura M} (𝓛 : Logic 𝓤) (mem : Memory → SProp
 
   goes-less : (x y : ℕ) → x < 2 ^ 64 → y < 2 ^ 64 → ent 𝓤 (emp 𝓤) (Less.pre (to-less x y))
   goes-less x y gx gy =
-      asks-plain 𝓛 (two 𝓛 usize (uint_Makes 𝓛 w64) x (vint w64 x ∷ []) (refl, gx)
+      asks_plain 𝓛 (two 𝓛 usize (uint_Makes 𝓛 w64) x (vint w64 x ∷ []) (refl, gx)
       usize (uint_Makes 𝓛 w64) y (vint w64 y ∷ []) (refl, gy))
 
 module _ {M : Type 1} {𝓤 : Ura M} (𝓛 : Logic 𝓤) (at_mem : Memory → SProp 𝓤) (run : Routine → Fun 𝓤) (κ : Lft) (q : Share)
@@ -239,7 +239,7 @@ module _ {M : Type 1} {𝓤 : Ura M} (𝓛 : Logic 𝓤) (at_mem : Memory → SP
         (init ! 6 refl ((LL.lawful T.the_type T'.the_laws 𝓛).typed (nth ws i) _ g).0) $
         elem_back ! T.the_row q' ws i no_write (vals (nth ws i)) b o lw $ shuts_slice ! tt T.the_row q' ws b o $
         -- and looked at
-        calls-met ! fm look_at.ended (look_at.clauses 𝓛 at_mem run) known-look-at (to-look-at 𝓛 at_mem run (past i) (nth ws i))
+        calls_met ! fm look_at.ended (look_at.clauses 𝓛 at_mem run) known-look-at (to-look-at 𝓛 at_mem run (past i) (nth ws i))
         (goes-look-at 𝓛 at_mem run (past i) (nth ws i) s.1.1 g) (LL.vals Q.the_type Q'.the_laws) (LL.tells Q.the_type Q'.the_laws)
         (λ r. r ≡ looked_at (past i) (nth ws i)) (λ r us. id⊢ 𝓤 _)
         (and_then ! (load ! (from ! (stop !)) (look ! 16 refl)) (and_then ! (load ! (from ! (stop !)) (look ! 4 refl)) (no_more !))) (λ r e' p.
@@ -290,7 +290,7 @@ module _ {M : Type 1} {𝓤 : Ura M} (𝓛 : Logic 𝓤) (at_mem : Memory → SP
         -- [the token; the fractured borrow; what ws owns; _11 (3); …; _j (25 - 2 j); …]
         assigns ! (of_opd ! (load ! (from ! (fld ! refl (stop !))) (look_in ! 23 (sub ! 1 refl (whole !))))) (from ! (stop !))
         (init ! 11 refl (tt, record { fits = room.0 })) $
-        calls-met ! fm less.ended (less.clauses 𝓛 at_mem run) known-less (to-less 𝓛 at_mem run n (length ws))
+        calls_met ! fm less.ended (less.clauses 𝓛 at_mem run) known-less (to-less 𝓛 at_mem run n (length ws))
         (goes-less 𝓛 at_mem run n (length ws) gn room.0) (uint_vals w64) (uint_Tells w64) (λ r. r ≡ k) (λ r us. id⊢ 𝓤 _)
         (and_then ! (load ! (from ! (stop !)) (look ! 22 refl)) (and_then ! (load ! (from ! (stop !)) (look ! 12 refl)) (no_more !))) (λ r e p.
         land ! (from ! (stop !)) (init ! 17 refl ((uint_Lawful 𝓛 w64).typed r _ p).0) $

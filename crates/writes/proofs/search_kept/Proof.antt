@@ -46,8 +46,8 @@ use Rattle.walks.proofs.Walked.{meets}
 use Rattle.writes.specs.Searched.{searched}
 use Rattle.writes.specs.declared.Query.{Query}
 use Rattle.writes.specs.declared.Write.{Write}
-use Rattle.walks.proofs.Arrays.{to-parts, from_parts, big-lit}
-use Rattle.writes.proofs.Lent.{Search, calls-search, lent_at, write_vals, query_vals}
+use Rattle.walks.proofs.Arrays.{to_parts, from_parts, big_lit}
+use Rattle.writes.proofs.Lent.{Search, calls_search, lent_at, write_vals, query_vals}
 use Rattle.writes.specs.contracts.Query as Q
 use Rattle.writes.proofs.Query.TheLaws as Q'
 use Rattle.writes.specs.contracts.Write as T
@@ -106,8 +106,8 @@ module _ {M : Type 1} {𝓤 : Ura M} (𝓛 : Logic 𝓤) (at_mem : Memory → SP
   abbrev parts : ℕ → ℕ → Fml
   parts b m = (arr_parts (shares T.the_row) m).part full_share ws b 0
 
-  write-makes : Makes 𝓛 T.the_row (Is T.the_row)
-  write-makes = LL.makes T.the_type T'.the_plain 𝓛
+  write_makes : Makes 𝓛 T.the_row (Is T.the_row)
+  write_makes = LL.makes T.the_type T'.the_plain 𝓛
 
   row_lawful : Lawful 𝓛 Row
   row_lawful = Array-Lawful 𝓛 T.the_row (LL.lawful T.the_type T'.the_laws 𝓛) 1024
@@ -152,24 +152,24 @@ module _ {M : Type 1} {𝓤 : Ura M} (𝓛 : Logic 𝓤) (at_mem : Memory → SP
         assigns ! (of_opd ! (load ! (from ! (stop !)) (look ! 10 refl))) (from ! (stop !)) (init ! 4 refl (row_lawful.typed ws _ gw).0) $
         assigns ! (addr ! (from ! (stop !))) (from ! (stop !)) (init ! 2 refl (tt, tt)) $
         assigns ! (agg ! (and_then ! (load ! (from ! (stop !)) (look ! 2 refl))
-        (and_then ! (big-lit ! (record { fits = lit< tt })) (no_more !))))
+        (and_then ! (big_lit ! (record { fits = lit< tt })) (no_more !))))
         (from ! (stop !)) (init ! 0 refl (tt, (tt, (record { fits = lit< tt }, tt)))) $
         rewrite ! 0 (λ (m : ℕ). ‵ (fat full_share slice l₆ 0 (slice_val (l₄, 0) m))) (sym many) refl $
         -- the array is lent for ν
-        move ! (4 ∷ []) $ use1 𝓛 (‵ (parts l₄ 1024)) (to-parts 𝓛 T.the_row tt 1024 write_vals write_tells write-makes l₄ ws gw) $
+        move ! (4 ∷ []) $ use1 𝓛 (‵ (parts l₄ 1024)) (to_parts 𝓛 T.the_row tt 1024 write_vals write_tells write_makes l₄ ws gw) $
         rewrite ! 0 (λ (m : ℕ). ‵ (parts l₄ m)) (sym many) refl $ lft_new ! tt (λ ν. move ! (1 ∷ []) $
         use1 𝓛 (later (some (λ (δ : GName). ‵ ((ShrSlice (named 0) (ν ∷ []) T.the_row).own_val (lent_at l₄ 0 δ ws) (mach l₄ ∷ []))
         ⊛ ‵ (flent (ν ∷ []) (parts l₄ (length ws)))))) (lends_shr_slice 𝓛 T.the_row (named 0) (ν ∷ []) full_share ws l₄ 0 room) $
         await ! tt $ pick ! (λ δ. split ! $ move ! (2 ∷ 0 ∷ []) $
         -- [pre; the lender's part; _6 (2); …; _5 (4); …; that _4 dies (6); _3 (7); …; _2 (9); …; _1 (11); …; _0 (13); …]
-        calls-search ! fm at_mem run known (ν ∷ []) full_share l₄ 0 δ ws n q gn gq
+        calls_search ! fm at_mem run known (ν ∷ []) full_share l₄ 0 δ ws n q gn gq
         (and_then ! (load ! (from ! (stop !)) (look ! 2 refl)) (and_then ! (load ! (from ! (stop !)) (look ! 9 refl))
         (and_then ! (load ! (from ! (stop !)) (look ! 7 refl)) (no_more !)))) (λ r e p.
         land ! (from ! (stop !)) (init ! 13 refl ((LL.lawful Q.the_type Q'.the_laws 𝓛).typed r _ p).0) $
         -- ν is ended, and the array is whole again
         lft_end ! tt $ lent_back ! tt $ rewrite ! 0 (λ (m : ℕ). ‵ (parts l₄ m)) many refl $
         use1 𝓛 (given (Is Row ws (av ws ∷ [])) (‵ (fat full_share arr l₄ 0 (av ws))))
-        (from_parts 𝓛 T.the_row tt 1024 write_vals write_tells write-makes l₄ ws) $ learn ! (λ _.
+        (from_parts 𝓛 T.the_row tt 1024 write_vals write_tells write_makes l₄ ws) $ learn ! (λ _.
         -- [_4; _6 (1); …; _5 (3); …; that _4 dies (5); _3 (6); …; _2 (8); …; _1 (10); …; _0 (12); …]
         returns ! (look ! 12 refl) $ forget ! 0 refl $ forget ! 1 refl $ forget ! 3 refl $ forget ! 6 refl $ forget ! 8 refl $
         forget ! 10 refl $ forget ! 12 refl $
