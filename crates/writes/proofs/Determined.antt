@@ -9,10 +9,10 @@ use contract.Monad.{Fun, conj, fact}
 use Rattle.laws.proofs.Determined.{determined, determined_together, OneResult, OneResultOf}
 use Rattle.writes.proofs.unjudged.Reads as unjudged
 use Rattle.writes.proofs.sought.Reads as sought
-use Rattle.writes.specs.contracts.search as search_of
+use Rattle.writes.proofs.search.Reads as search
 use Rattle.writes.proofs.search_kept.Reads as search_kept
 use Rattle.writes.proofs.fill_of.Reads as fill_of
-use Rattle.writes.specs.contracts.store as store_of
+use Rattle.writes.proofs.store.Reads as store
 
 pub unjudged-determined : OneResult unjudged.Post
 unjudged-determined κs a x y e f = determined

@@ -1,0 +1,7 @@
+use borrow.Author.Rules.{rules}
+use Rattle.writes.specs.History.{shown_by}
+use Rattle.writes.proofs.shown_by.Goals as goal
+
+pub returns : goal.returns
+unfolding shown_by
+returns c = rw (c.present_if.ensures, c.both.ensures)

@@ -1,0 +1,7 @@
+use borrow.Author.Rules.{rules}
+use Rattle.writes.specs.Searched.{sought_of}
+use Rattle.writes.proofs.sought.Goals as goal
+
+pub returns : goal.returns
+unfolding sought_of
+returns c = rw c.present_if-found.ensures
