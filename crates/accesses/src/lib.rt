@@ -1,5 +1,6 @@
 // Tests of a plain access: of the list's room, the thread's view and the history.
 #![tactic(auto)]
+
 ghost use Rattle.std.specs.Prelude.{◌≡◌};
 ghost use Rattle.accesses.specs.Accesses.{full, outdated, present, amiss};
 

@@ -1,5 +1,6 @@
 // The memory steps on atomic cells, written once over a cell's name. Threads count from 0.
 #![tactic(auto)]
+
 ghost use Rattle.std.specs.Prelude.{◌≡◌};
 ghost use Rattle.atomic.specs.Atomic.{met, told, read_atomic, write_atomic, swapped_of};
 

@@ -1,5 +1,6 @@
 // What the parts of a state must be so that it can stand: threads, first values, atomic cells.
 #![tactic(auto)]
+
 ghost use Rattle.std.specs.Prelude.{◌≡◌};
 ghost use Rattle.parts.specs.Parts.{thread_stands, threads_stand, firsts_stand, atomic_stands, name_in, atomics_stand, parts_stand};
 

@@ -1,5 +1,6 @@
 // What a place in a call notes and waits for.
 #![tactic(auto)]
+
 ghost use Rattle.std.specs.Prelude.{◌≡◌};
 ghost use Rattle.places.specs.Places.{rank_of, weight_of, place_stands, due_at};
 

@@ -1,5 +1,6 @@
 // Which states can stand (refusal 14).
 #![tactic(auto)]
+
 ghost use Rattle.std.specs.Prelude.{◌≡◌};
 ghost use Rattle.laws.specs.Tests.{◌and◌};
 ghost use Rattle.parts.specs.Parts.{parts_stand};

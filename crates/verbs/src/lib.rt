@@ -1,5 +1,6 @@
 // Tests of what a line asks: its kind, the cell or flag that it names, its greatest number.
 #![tactic(auto)]
+
 ghost use Rattle.std.specs.Prelude.{◌≡◌};
 ghost use Rattle.verbs.specs.Verbs.{among, asks, named, greatest};
 

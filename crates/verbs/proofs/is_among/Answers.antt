@@ -2,8 +2,7 @@ use mathlib.Core.Path.{◌≡◌, refl}
 use Prim.Native.Nat.{ℕ, zero, suc}
 use lib.Dec.{leb}
 use Rattle.verbs.specs.Verbs.{among}
-use Rattle.verbs.proofs.is_among.Statement.{statement}
-use Rattle.verbs.proofs.is_among.Tie as tie
+use Rattle.verbs.proofs.is_among.Goals as goal
 
 -- a number that is not 0 is judged by the other end
 some : (n high : ℕ) → (n ≡ 0 → ⊥) → leb n high ≡ among n high
@@ -11,12 +10,9 @@ unfolding among
 some zero high h = absurd (h refl)
 some (suc n) high h = refl
 
-returns : tie.Need-returns
+pub returns-then-n-eq0 : goal.returns-then-n-eq0
 unfolding among
-returns c = rw c.if1.true
+returns-then-n-eq0 c = rw c.if-n-eq0.true
 
-returns-2 : tie.Need-returns-2
-returns-2 c = some _ _ c.if1.false
-
-pub is-among-spec : {M : Type 1} → statement M
-is-among-spec = tie.close (tie.spec returns returns-2)
+pub returns : goal.returns
+returns c = some _ _ c.if-n-eq0.false

@@ -1,0 +1,5 @@
+use borrow.Author.Rules.{rules}
+use Rattle.standing.proofs.asked_of.Goals as goal
+
+pub returns : goal.returns
+returns c = rw (c.sought.ensures, c.cells_of.ensures)
