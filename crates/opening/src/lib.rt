@@ -1,5 +1,6 @@
 // A machine is opened from T, C and the first values of its plain cells and flags.
 #![tactic(auto)]
+
 ghost use Rattle.std.specs.Prelude.{◌≡◌, ◌≤◌, length};
 ghost use Rattle.opening.specs.Opening.{weights_stand, given_room, flags_room, statuses_room, unmoved, refused_opening, fresh, opened_of};
 

@@ -1,5 +1,6 @@
 // The refusals of a step, in their order.
 #![tactic(auto)]
+
 ghost use Rattle.std.specs.Prelude.{◌≡◌};
 ghost use Rattle.refusal.specs.Refusal.{refuse, refusal_by};
 

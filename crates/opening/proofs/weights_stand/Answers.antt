@@ -1,0 +1,29 @@
+use mathlib.Core.Path.{◌≡◌, sym}
+use mathlib.Core.Bool.{true}
+use Prim.Native.Nat.{◌-◌, ◌≤◌}
+use borrow.Author.Tests.{le-leb, lt-leb}
+use borrow.Author.Rules.{rules}
+use lib.Dec.{leb}
+use lib.ListN.{get_or}
+use Rattle.laws.proofs.Tests.{all_none, all_more, all_fails, all_done}
+use Rattle.laws.specs.Tests.{all_below}
+use Rattle.opening.specs.Opening.{weights_stand}
+use Rattle.step.specs.Limit.{most}
+use Rattle.opening.proofs.weights_stand.Goals as goal
+
+pub loop-i-init : goal.loop-i-init
+loop-i-init c = (search rules, all_none _)
+
+pub returns-then-number_at-gt-MOST : goal.returns-then-number_at-gt-MOST
+unfolding weights_stand
+returns-then-number_at-gt-MOST c =
+    sym (all_fails _ c.loop-i.i _ c.loop-i-test.true (rw (← c.number_at.ensures, lt-leb _ _ c.if-number_at-gt-MOST.true)))
+
+pub loop-i-preserved : goal.loop-i-preserved
+loop-i-preserved c =
+    (search rules, all_more _ c.loop-i.i c.loop-i.invariant.1 (rw (← c.number_at.ensures, le-leb _ _ c.if-number_at-gt-MOST.false)))
+
+pub returns : goal.returns
+unfolding weights_stand
+returns c =
+    sym (all_done _ c.loop-i.i _ c.loop-i.invariant.0 c.loop-i-test.false c.loop-i.invariant.1)
