@@ -1,5 +1,6 @@
 // The state as an image of numbers, judged and read.
 #![tactic(auto)]
+
 ghost use Rattle.std.specs.Prelude.{◌≡◌, ◌<◌, ◌≤◌, replicate};
 ghost use Rattle.image.specs.Image.{place_words, place_of, first_at, thread_at, view_at, cell_at, word, view_from, atomic_from, place_from, machine_of, is_place, is_image};
 ghost use Rattle.laws.specs.Lists.{filled};

@@ -1,5 +1,6 @@
 // What a step comes to; what it does stands in specs/. Types only.
 #![tactic(auto)]
+
 use state::Machine;
 use step::Answer;
 use writes::Access;

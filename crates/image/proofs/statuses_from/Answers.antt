@@ -1,0 +1,25 @@
+use mathlib.Core.Path.{◌≡◌}
+use Prim.Native.Nat.{◌-◌, ◌≤◌}
+use native.Mathlib.Numerals.{add-one}
+use native.Mathlib.Omega.{arith}
+use borrow.Author.Rules.{rules}
+use lib.ListN.{replicate}
+use Rattle.laws.specs.Lists.{filled}
+use Rattle.image.specs.Image.{cell_at, atomic_from}
+use Rattle.state.specs.State.{zero_atomic}
+use Rattle.state.specs.declared.Name.TheVariants.{Status}
+use Rattle.image.proofs.statuses_from.Goals as goal
+
+pub loop-i-init : goal.loop-i-init
+unfolding filled
+loop-i-init c = (search rules, rw c.zero_atomic-none.ensures)
+
+pub loop-i-preserved : goal.loop-i-preserved
+unfolding filled
+loop-i-preserved c =
+    (search rules, rw (add-one, ← c.loop-i.invariant.1, c.atomic_from.ensures))
+
+pub returns : goal.returns
+returns c =
+    let e : c.loop-i.i ≡ 16 = omega arith in
+    rw (← e) c.loop-i.invariant.1

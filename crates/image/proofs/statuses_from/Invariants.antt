@@ -1,0 +1,17 @@
+use mathlib.Core.Path.{◌≡◌}
+use Prim.Native.Nat.{◌-◌, ◌≤◌}
+use native.Mathlib.Numerals.{add-one}
+use native.Mathlib.Omega.{arith}
+use borrow.Author.Rules.{rules}
+use lib.ListN.{replicate}
+use Rattle.laws.specs.Lists.{filled}
+use Rattle.image.specs.Image.{cell_at, atomic_from}
+use Rattle.state.specs.State.{zero_atomic}
+use Rattle.state.specs.declared.Name.TheVariants.{Status}
+use Rattle.image.proofs.statuses_from.Given as goal
+
+abbrev pub invariant-loop-i : goal.invariant-loop-i
+invariant-loop-i l = (l.i ≤ 16) × (l.room ≡ filled (λ j. atomic_from l.s (cell_at (Status j))) l.i (replicate 16 zero_atomic))
+
+abbrev pub decreases-loop-i : goal.decreases-loop-i
+decreases-loop-i l = 16 - l.i

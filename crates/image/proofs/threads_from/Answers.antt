@@ -1,0 +1,25 @@
+use mathlib.Core.Path.{◌≡◌, refl}
+use Prim.Native.Nat.{◌-◌, ◌≤◌}
+use native.Mathlib.Numerals.{add-one}
+use native.Mathlib.Omega.{arith}
+use borrow.Author.Rules.{rules}
+use lib.ListN.{replicate}
+use Rattle.laws.specs.Lists.{filled}
+use Rattle.image.specs.Image.{thread_at, place_from}
+use Rattle.state.specs.State.{at}
+use Rattle.state.specs.declared.Place.TheVariants.{Idle}
+use Rattle.image.proofs.threads_from.Goals as goal
+
+pub loop-i-init : goal.loop-i-init
+unfolding filled
+loop-i-init c = (search rules, refl)
+
+pub loop-i-preserved : goal.loop-i-preserved
+unfolding filled
+loop-i-preserved c =
+    (search rules, rw (add-one, ← c.loop-i.invariant.1, c.place_from-place.ensures))
+
+pub returns : goal.returns
+returns c =
+    let e : c.loop-i.i ≡ 8 = omega arith in
+    rw (← e) c.loop-i.invariant.1
