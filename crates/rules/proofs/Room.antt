@@ -135,7 +135,7 @@ atomic_room m a x l h =
       firsts = atomic_leaves (λ s k f v t. f) m a x;
       threads = λ j g. (atomic_leaves (λ s k f v t. get_or v j zero_view) m a x, atomic_leaves (λ s k f v t. (get_or t j (at Idle)).place) m a x);
       rows = λ j e g. atomic_leaves (λ s k f v t. stamp_of (get_or v j zero_view) e) m a x;
-      cells = λ b. atomic_each (λ c (y : Atomic). Lacks m.shape c → y ≡ atomic_at m c) m a b x (λ g. absurd (lacks_none _ a l g)) (λ g. refl);
+      cells = λ b. atomic_each (λ c (y : Atomic). Lacks m.shape c → y ≡ atomic_at m c) m a b x (λ g. absurd (lacks_none m.shape a l g)) (λ g. refl);
       seen = λ b. atomic_each (λ c (y : Atomic). Agree (cells_of m) y.view (atomic_at m c).view) m a b x h (λ e g. refl);
     }
 
