@@ -1,5 +1,6 @@
 // What a step asks of the list of writes: its plain access, and the one search that serves it.
 #![tactic(auto)]
+
 ghost use Rattle.std.specs.Prelude.{◌≡◌};
 ghost use Rattle.asking.specs.Ask.{records_asked, judged_unless, ask_by, ask_of, rank_ask_of};
 ghost use Rattle.asking.specs.Bounds.{Small};

@@ -52,13 +52,13 @@ module _ (m n : Machine) (ws : List Write) (s : Step) (A : Alike m n) (l : s.thr
   here B k = ⊎_elim (λ (h : Has m.shape B). h) (λ (h : Lacks m.shape B). absurd (k h)) (has_or_lacks m.shape B)
 
   shared : Shared m.shape (store_of m ws) (store_of n ws)
-  shared = record { history = λ a t h. rw (first_same m n A (a - 1), A.held); value = λ B h. sym (A.values B (lacks_none _ B h)) }
+  shared = record { history = λ a t h. rw (first_same m n A (a - 1), A.held); value = λ B h. sym (A.values B (lacks_none m.shape B h)) }
 
   agreed : Agree m.shape (store_of m ws) (store_of n ws) (stamps_of m i) (stamps_of n i)
   unfolding cells_of
   agreed = record {
-    value = λ B h. sym (A.values B (lacks_none _ B h));
-    seen = λ B h a q. sym (A.seen B (a - 1) (lacks_none _ B h) (omega arith));
+    value = λ B h. sym (A.values B (lacks_none m.shape B h));
+    seen = λ B h a q. sym (A.seen B (a - 1) (lacks_none m.shape B h) (omega arith));
     view = λ a q. sym (A.rows i (a - 1) l (omega arith));
   }
 

@@ -1,5 +1,6 @@
 // The image of a state, written.
 #![tactic(auto)]
+
 ghost use Rattle.std.specs.Prelude.{◌≡◌, ◌++◌, ◌+◌, ◌*◌, ◌≤◌, length};
 ghost use Rattle.image.specs.Image.{in_turn, atomic_words, thread_words, heading, words_of};
 ghost use Rattle.number.specs.Buffer.{placed, Wrote};

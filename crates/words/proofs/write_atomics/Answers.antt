@@ -1,0 +1,25 @@
+use mathlib.Core.Path.{◌≡◌, refl, ap}
+use Prim.Native.Nat.{◌+◌, ◌*◌, ◌-◌, ◌≤◌}
+use native.Mathlib.Omega.{arith}
+use borrow.Author.Rules.{rules}
+use lib.ListN.{length}
+use Rattle.number.specs.Buffer.{Wrote}
+use Rattle.words.proofs.Words.{turn, no_turn}
+use Rattle.image.specs.Image.{in_turn, atomic_words}
+use Rattle.parts.specs.Parts.{name_in}
+use Rattle.state.specs.State.{atomic_at}
+use Rattle.state.specs.declared.Name.{Name}
+use Rattle.words.proofs.write_atomics.Goals as goal
+
+pub loop-i-init : goal.loop-i-init
+loop-i-init c = (search rules, search rules, refl, no_turn _ _ _)
+
+pub loop-i-preserved : goal.loop-i-preserved
+loop-i-preserved c =
+    let e = ap (λ (a : Name). atomic_words (atomic_at c.args.m a)) c.name_in.ensures in
+    (omega arith, omega (arith, c.write_cell-q.ensures.1), search rules, turn _ c.loop-i.i c.loop-i.invariant.3 c.write_cell-q.ensures.0 e)
+
+pub returns : goal.returns
+returns c =
+    let e : c.loop-i.i ≡ c.args.n = omega arith in
+    (rw e at c.loop-i.invariant.3, omega arith)
