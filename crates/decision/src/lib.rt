@@ -1,5 +1,6 @@
 // What is decided of a step, on values, once the list of writes is searched.
 #![tactic(auto)]
+
 ghost use Rattle.std.specs.Prelude.{◌≡◌, true, ◌≤◌, ◌-◌};
 ghost use Rattle.decision.specs.Bounds.{Sized};
 ghost use Rattle.decision.specs.Decision.{rank_fits, stands_if, verdict_of, content_by};

@@ -9,5 +9,5 @@ pub returns : goal.returns
 unfolding words_of
 returns c =
     all_written
-    (wrote_then (wrote_then (wrote_then (wrote_then (wrote_then c.write_heading-p.ensures.0 c.write_threads-p.ensures.0) c.write_cell-p.ensures.0) c.write_cell-p-2.ensures.0) c.write_atomics-p.ensures.0) c.write_atomics.ensures.0)
-    (omega (arith, c.write_atomics.ensures.1, c.write_atomics-p.ensures.1, c.write_cell-p-2.ensures.1, c.write_cell-p.ensures.1, c.write_threads-p.ensures.1, c.write_heading-p.ensures.1))
+    (wrote_then (wrote_then (wrote_then (wrote_then (wrote_then c.write_heading-p.ensures.wrote c.write_threads-p.ensures.wrote) c.write_cell-p.ensures.wrote) c.write_cell-p-2.ensures.wrote) c.write_atomics-p.ensures.wrote) c.write_atomics.ensures.wrote)
+    (omega (arith, c.write_atomics.ensures.value, c.write_atomics-p.ensures.value, c.write_cell-p-2.ensures.value, c.write_cell-p.ensures.value, c.write_threads-p.ensures.value, c.write_heading-p.ensures.value))

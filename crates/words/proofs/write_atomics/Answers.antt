@@ -17,9 +17,9 @@ loop-i-init c = (search rules, search rules, refl, no_turn _ _ _)
 pub loop-i-preserved : goal.loop-i-preserved
 loop-i-preserved c =
     let e = ap (λ (a : Name). atomic_words (atomic_at c.args.m a)) c.name_in.ensures in
-    (omega arith, omega (arith, c.write_cell-q.ensures.1), search rules, turn _ c.loop-i.i c.loop-i.invariant.3 c.write_cell-q.ensures.0 e)
+    (omega arith, omega (arith, c.write_cell-q.ensures.value), search rules, turn _ c.loop-i.i c.loop-i.invariant.3 c.write_cell-q.ensures.wrote e)
 
 pub returns : goal.returns
 returns c =
     let e : c.loop-i.i ≡ c.args.n = omega arith in
-    (rw e at c.loop-i.invariant.3, omega arith)
+    record { wrote = rw e at c.loop-i.invariant.3; value = omega arith }

@@ -18,4 +18,4 @@ pub returns : goal.returns
 returns c =
     let e : c.write_words-q.result ≡ c.args.p + length c.args.words.now = c.write_words-q.ensures.next in
     let f : c.write_words.result ≡ c.write_words-q.result + length c.args.view.at = c.write_words.ensures.next in
-    (wrote_then c.write_words-q.ensures c.write_words.ensures, omega (arith, long (goal.at.returns c).Start))
+    record { wrote = wrote_then c.write_words-q.ensures c.write_words.ensures; value = omega (arith, long (goal.at.returns c).Start) }

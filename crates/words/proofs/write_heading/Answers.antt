@@ -18,4 +18,4 @@ pub returns : goal.returns
 returns c =
     let e : c.write_words-p.result ≡ 6 = c.write_words-p.ensures.next in
     let f : c.write_words.result ≡ c.write_words-p.result + length c.args.m.firsts = c.write_words.ensures.next in
-    (wrote_then c.write_words-p.ensures c.write_words.ensures, omega (arith, long (goal.at.returns c).Start))
+    record { wrote = wrote_then c.write_words-p.ensures c.write_words.ensures; value = omega (arith, long (goal.at.returns c).Start) }

@@ -21,9 +21,9 @@ pub loop-i-preserved : goal.loop-i-preserved
 loop-i-preserved c =
     let h : length c.place_words-words.result ≡ 3 = search rules in
     let e : (c.place_words-words.result ++ c.row_of.result.at) ≡ thread_words c.args.m c.loop-i.i = rw (c.place_words-words.ensures, c.place_of.ensures, c.row_of.ensures) in
-    (omega arith, omega (arith, c.write_entry-q.ensures.1), search rules, turn _ c.loop-i.i c.loop-i.invariant.3 c.write_entry-q.ensures.0 e)
+    (omega arith, omega (arith, c.write_entry-q.ensures.value), search rules, turn _ c.loop-i.i c.loop-i.invariant.3 c.write_entry-q.ensures.wrote e)
 
 pub returns : goal.returns
 returns c =
     let e : c.loop-i.i ≡ 8 = omega arith in
-    (rw e at c.loop-i.invariant.3, omega arith)
+    record { wrote = rw e at c.loop-i.invariant.3; value = omega arith }

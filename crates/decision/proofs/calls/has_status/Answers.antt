@@ -1,0 +1,5 @@
+use borrow.Author.Rules.{rules}
+use Rattle.decision.proofs.calls.has_status.Goals as goal
+
+pub returns : goal.returns
+returns c = rw (c.atomic_of-cell.ensures, c.status_name.ensures)
