@@ -21,7 +21,7 @@ take-done-requires c =
     let e : refusal_by c.args.stand c.args.m c.args.lent c.args.step c.args.a c.args.f ≡ 0 = rw (← c.refusal_by-number.ensures) c.if-number-eq0.true in
     let p = (passed c.args.stand c.args.m c.args.lent c.args.step c.args.a c.args.f e).0 in
     let z = c.requires p.stands in
-    (z.0, fits_rank c.args.m c.args.step p.thread.1 z.1)
+    record { sized = z.0; thread_bound = fits_rank c.args.m c.args.step p.thread.1 z.1 }
 
 pub returns-then-number-eq0 : goal.returns-then-number-eq0
 returns-then-number-eq0 c = rw (c.take-done.ensures, ← c.refusal_by-number.ensures, c.if-number-eq0.true)

@@ -3,10 +3,10 @@ use Rattle.rules.specs.Calls.{acted}
 use Rattle.decision.proofs.calls.act.Goals as goal
 
 pub resume-requires : goal.resume-requires
-resume-requires c = (rw c.place_of.ensures c.requires.0, c.requires.1)
+resume-requires c = record { p_bound = rw c.place_of.ensures c.requires.i_bound; slots_bound = c.requires.slots_bound }
 
 pub resume-requires-in-GoAt : goal.resume-requires-in-GoAt
-resume-requires-in-GoAt c = (rw c.place_of-in-GoAt.ensures c.requires.0, c.requires.1)
+resume-requires-in-GoAt c = record { p_bound = rw c.place_of-in-GoAt.ensures c.requires.i_bound; slots_bound = c.requires.slots_bound }
 
 pub returns-in-Get : goal.returns-in-Get
 unfolding acted

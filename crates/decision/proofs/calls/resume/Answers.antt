@@ -6,18 +6,18 @@ use Rattle.state.specs.State.{at}
 use Rattle.decision.proofs.calls.resume.Goals as goal
 
 pub swap-requires : goal.swap-requires
-swap-requires c = rw c.in-PutSwap.is at c.requires.0
+swap-requires c = rw c.in-PutSwap.is at c.requires.p_bound
 
 pub close-requires : goal.close-requires
 unfolding full_status
-close-requires c = omega (arith, c.full_status.ensures, rw c.in-PutPublish.is at c.requires.0)
+close-requires c = omega (arith, c.full_status.ensures, rw c.in-PutPublish.is at c.requires.p_bound)
 
 pub swap-requires-in-TakeSwap : goal.swap-requires-in-TakeSwap
-swap-requires-in-TakeSwap c = rw c.in-TakeSwap.is at c.requires.0
+swap-requires-in-TakeSwap c = rw c.in-TakeSwap.is at c.requires.p_bound
 
 pub close-requires-in-TakeFree : goal.close-requires-in-TakeFree
 unfolding free_status lapped
-close-requires-in-TakeFree c = omega (arith, c.freed_status.ensures, c.requires.1, rw c.in-TakeFree.is at c.requires.0)
+close-requires-in-TakeFree c = omega (arith, c.freed_status.ensures, c.requires.slots_bound, rw c.in-TakeFree.is at c.requires.p_bound)
 
 pub returns-in-Idle : goal.returns-in-Idle
 unfolding resumed
