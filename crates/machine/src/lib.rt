@@ -1,5 +1,6 @@
 // One step of the machine, and what its queue holds.
 #![tactic(auto)]
+
 ghost use Rattle.std.specs.Prelude.{◌≡◌};
 ghost use Rattle.decision.specs.Known.{step_by};
 ghost use Rattle.rules.specs.Step.{outcome, step_of, content_of};
