@@ -1,5 +1,4 @@
 pub mod Left
 pub mod Kept
 pub mod Leaves
-pub mod Steps
 pub mod Determined

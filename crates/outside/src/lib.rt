@@ -1,5 +1,6 @@
 // One step for callers in another language: the state as an image of numbers.
 #![tactic(auto)]
+
 ghost use Rattle.std.specs.Prelude.{◌≡◌};
 ghost use Rattle.image.specs.Image.{words_of, machine_of};
 ghost use Rattle.number.specs.Buffer.{placed};
@@ -130,8 +131,7 @@ fn put_done(state: &mut [u32], answer: &mut [u32], number: u32, done: Done) -> u
 
 // One step of the machine whose image is lent, for any image, list and step asked: 0 where it is taken, else the number that the call is
 // refused by. Only a taken one writes: the image, the list as the step leaves it, the two words of the answer.
-#[unsafe(no_mangle)]
-pub extern "C" fn dentralupo_step(
+pub fn dentralupo_step(
     state: &mut [u32],
     writes: &mut [Write],
     asked: &[u32],
