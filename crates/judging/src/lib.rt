@@ -1,5 +1,6 @@
 // The whole text of a schedule, judged from the front: what is due is read, one line at a time from a reader.
 #![tactic(auto)]
+
 ghost use Rattle.std.specs.Prelude.{◌≡◌};
 ghost use Rattle.schedule.specs.Sections.{judged};
 

@@ -1,5 +1,6 @@
 // The lines that a program prints: two or three fields, one space between fields, one LF at the end.
 #![tactic(auto)]
+
 ghost use Rattle.std.specs.Prelude.{◌≡◌, ◌+◌, ◌≤◌, length};
 ghost use Rattle.number.specs.Buffer.{put_at, placed, Wrote};
 ghost use Rattle.form.specs.Text.{word_text};

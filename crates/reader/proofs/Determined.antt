@@ -1,37 +1,39 @@
 -- Any two results that a public contract allows are equal, and so is every lent byte afterwards: none is lent to be changed.
--- Of the walked functions that take or give a reader it is said of the `ensures` itself. Assumes nothing.
+-- Assumes nothing.
 use mathlib.Core.Path.{◌≡◌}
-use seplogic.Ra.Ura.{Ura}
-use base.Logic.{SProp, ent}
-use prog.Memory.{Memory}
-use prog.Routine.{Routine}
-use types.Logic.{Logic}
-use contract.Monad.{Fun, conj, fact}
-use Rattle.laws.proofs.Determined.{determined, determined_together, say_together, OneResult, OneResultOf}
-use Rattle.reader.proofs.Held.{is_at}
-use Rattle.reader.proofs.line_of.Reads as Line_of
+use mathlib.Core.List.{List}
+use Prim.Native.Nat.{ℕ}
+use denote.Ref.{Bor}
+use Rattle.laws.proofs.Determined.{determined, OneResult}
+use Rattle.reader.specs.declared.Reader.{Reader}
+use Rattle.reader.proofs.on.Reads as on
+use Rattle.reader.proofs.next_line.Reads as next_line
+use Rattle.reader.proofs.moved.Reads as moved
+use Rattle.reader.proofs.fault.Reads as fault
+use Rattle.reader.proofs.line_of.Reads as line_of
 use Rattle.reader.proofs.fault_of.Reads as fault_of
-use Rattle.reader.specs.contracts.on as on
-use Rattle.reader.specs.contracts.moved as moved
-use Rattle.reader.specs.contracts.next_line as next_line
-use Rattle.reader.specs.contracts.fault as fault
 
-pub line_of-determined : OneResult Line_of.Post
+-- a reader is its text and its place
+abbrev at_place : Bor (List ℕ) → ℕ → Reader
+at_place s n = record { text = s; at = n }
+
+pub is_at : (s : Bor (List ℕ)) (n : ℕ) (r : Reader) → (r.text ≡ s) × (r.at ≡ n) → r ≡ at_place s n
+is_at s n r e = λ i. record { text = e.0 i; at = e.1 i }
+
+pub on-determined : OneResult on.Post
+on-determined κs a x y e f p q = determined (is_at _ _ x p) (is_at _ _ y q)
+
+pub next_line-determined : OneResult next_line.Post
+next_line-determined κs a x y e f = determined
+
+pub moved-determined : OneResult moved.Post
+moved-determined κs a x y e f p q = determined (is_at _ _ x p) (is_at _ _ y q)
+
+pub fault-determined : (κs : _) (a : _) (x y : _) (e f : _) → fault.Post κs a x e → fault.Post κs a y f → x.now ≡ y.now
+fault-determined κs a x y e f = determined
+
+pub line_of-determined : OneResult line_of.Post
 line_of-determined κs a x y e f = determined
 
 pub fault_of-determined : (κs : _) (a : _) (x y : _) (e f : _) → fault_of.Post κs a x e → fault_of.Post κs a y f → x.now ≡ y.now
 fault_of-determined κs a x y e f = determined
-
-module _ {M : Type 1} {𝓤 : Ura M} (𝓛 : Logic 𝓤) (mem : Memory → SProp 𝓤) (run : Routine → Fun 𝓤) where
-  pub on-determined : OneResultOf 𝓤 on.ended (on.clauses 𝓛 mem run)
-  on-determined κs a g x y e f = say_together 𝓤 (λ p q. determined (is_at _ _ x p) (is_at _ _ y q))
-
-  pub moved-determined : OneResultOf 𝓤 moved.ended (moved.clauses 𝓛 mem run)
-  moved-determined κs a g x y e f = say_together 𝓤 (λ p q. determined (is_at _ _ x p) (is_at _ _ y q))
-
-  pub next_line-determined : OneResultOf 𝓤 next_line.ended (next_line.clauses 𝓛 mem run)
-  next_line-determined κs a g x y e f = determined_together 𝓤
-
-  pub fault-determined : (κs : _) (a : _) (g : _) (x y : _) (e f : _)
-      → ent 𝓤 (conj 𝓤 ((fault.clauses 𝓛 mem run κs a).ensures g x e) ((fault.clauses 𝓛 mem run κs a).ensures g y f)) (fact 𝓤 (x.now ≡ y.now))
-  fault-determined κs a g x y e f = determined_together 𝓤

@@ -1,5 +1,6 @@
 // The reader: the text and the position in it, together; it gives one line at a time.
 #![tactic(auto)]
+
 ghost use Rattle.std.specs.Prelude.{◌≡◌};
 ghost use Rattle.line.specs.Row.{read_line};
 ghost use Rattle.fault.specs.Refusal.{part_of};

@@ -1,5 +1,6 @@
 // The sections of a schedule's text: what is found of them and which line is due, one line passed at a time.
 #![tactic(auto)]
+
 ghost use Rattle.std.specs.Prelude.{◌≡◌};
 ghost use Rattle.schedule.specs.Sections.{count_in, lines_under, line_due, noted};
 ghost use Rattle.schedule.specs.Judging.{stopped, begun, due_in, header_at, settled, opened, after_line, ended_at};

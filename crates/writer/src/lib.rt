@@ -1,5 +1,6 @@
 // One line of a text, written at a place of a lent buffer: its ranges first, then its room.
 #![tactic(auto)]
+
 ghost use Rattle.std.specs.Prelude.{◌≡◌, ◌∷◌, [], ◌+◌, ◌≤◌, ◌<◌, length};
 ghost use Rattle.number.specs.Text.{number_text, weight_text};
 ghost use Rattle.number.specs.Buffer.{put_at, placed, Wrote};

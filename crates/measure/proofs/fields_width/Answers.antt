@@ -1,5 +1,4 @@
 use native.Mathlib.Omega.{arith}
-use borrow.Author.Rules.{rules}
 use lib.ListN.{length-append}
 use Rattle.form.specs.Text.{fields_text}
 use Rattle.measure.proofs.Widths.{lead_short, form_short}

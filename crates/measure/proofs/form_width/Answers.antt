@@ -1,7 +1,6 @@
 use mathlib.Core.Path.{sym}
 use Prim.Native.Nat.{◌+◌, ◌≤◌}
 use native.Mathlib.Omega.{arith}
-use borrow.Author.Rules.{rules}
 use Rattle.measure.proofs.Widths.{length_form, form_short}
 use Rattle.measure.proofs.form_width.Goals as goal
 use Rattle.measure.proofs.form_width.Goals.{After-operand_width-z}

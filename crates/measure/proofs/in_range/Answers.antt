@@ -1,4 +1,3 @@
-use borrow.Author.Rules.{rules}
 use Rattle.measure.proofs.Widths.{within_limited}
 use Rattle.measure.proofs.in_range.Goals as goal
 

@@ -1,5 +1,4 @@
 use native.Mathlib.Omega.{arith}
-use borrow.Author.Rules.{rules}
 use Rattle.form.specs.Text.{lead_text}
 use Rattle.number.proofs.Decimal.{length_snoc}
 use Rattle.number.specs.Text.{number_text}

@@ -1,5 +1,4 @@
 use native.Mathlib.Omega.{arith}
-use borrow.Author.Rules.{rules}
 use Rattle.form.specs.Text.{operand_text}
 use Rattle.measure.proofs.Widths.{number_short, weight_short}
 use Rattle.measure.proofs.operand_width.Goals as goal

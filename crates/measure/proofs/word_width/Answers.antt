@@ -1,8 +1,6 @@
-use mathlib.Core.Path.{◌≡◌, ap}
-use Prim.Native.Nat.{◌+◌, ◌-◌, ◌≤◌}
+use mathlib.Core.Path.{ap}
 use native.Mathlib.Omega.{arith}
-use lib.ListN.{length, drop}
-use Rattle.form.specs.Text.{word_text}
+use lib.ListN.{length}
 use Rattle.measure.proofs.Widths.{text_end, text_zero, text_more}
 use Rattle.measure.proofs.word_width.Goals as goal
 

@@ -1,9 +1,7 @@
-use mathlib.Core.Path.{◌≡◌, ap}
+use mathlib.Core.Path.{◌≡◌}
 use Prim.Native.Nat.{◌+◌, ◌-◌, ◌≤◌}
-use native.Mathlib.Omega.{arith}
 use lib.ListN.{length, drop}
 use Rattle.form.specs.Text.{word_text}
-use Rattle.measure.proofs.Widths.{text_end, text_zero, text_more}
 use Rattle.measure.proofs.word_width.Given as goal
 
 abbrev pub invariant-loop-j : goal.invariant-loop-j
