@@ -1,5 +1,6 @@
 // The machine that a text opens.
 #![tactic(auto)]
+
 ghost use Rattle.std.specs.Prelude.{◌≡◌, ◌≤◌, min, length, take};
 ghost use Rattle.number.specs.Buffer.{Wrote};
 ghost use Rattle.opening.specs.Opening.{opened_of};

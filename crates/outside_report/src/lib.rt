@@ -28,16 +28,15 @@ fn number_or(upto: Written, n: u32) -> u32
 
 // The report of any text: its first line in `first`, the other lines in `rest`, and how many bytes each then has of it. 0 is returned, or
 // 15 where a line had no room. With 64 and 131,072 bytes lent there is always room.
-#[unsafe(no_mangle)]
-pub extern "C" fn dentralupo_report(
+pub fn dentralupo_report(
     text: &[u8],
     first: &mut [u8],
     stop: &mut usize,
     rest: &mut [u8],
     upto: &mut usize,
 ) -> u32
-    ensures upto_after { lent result first.new stop.new rest.new upto.new ≡ called text.now first.old rest.old }
-    ensures call_whole { CallWhole }
+    ensures leaves { lent result first.new stop.new rest.new upto.new ≡ called text.now first.old rest.old }
+    ensures whole { CallWhole }
 {
     let r = reported::report(text, rest);
     let line = r.first;

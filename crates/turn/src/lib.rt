@@ -1,6 +1,7 @@
 // What a run does between its steps: the line of a step that was taken is put into a buffer, and the next step is read from the text; a
 // step that was refused is the last. The machine and the list of writes stay with the caller's loop.
 #![tactic(auto)]
+
 ghost use Rattle.std.specs.Prelude.{◌≡◌, replicate};
 ghost use Rattle.step.specs.Answer.{number_of};
 ghost use Rattle.texts.specs.Schedule.{step_in};

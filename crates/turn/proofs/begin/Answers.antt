@@ -1,0 +1,5 @@
+use borrow.Author.Rules.{rules}
+use Rattle.turn.proofs.begin.Goals as goal
+
+pub returns : goal.returns
+returns c = rw c.next_step-ahead.ensures
