@@ -30,15 +30,15 @@ use Rattle.run.specs.Ends.{Ends, told_line}
 use Rattle.run.specs.Run.{Run, Told, ran, stops, tells}
 
 -- what is left of a run on its way: the steps ahead, or nothing after the last
-abbrev left_if : Bool → Run → Run → Run
+abbrev pub left_if : Bool → Run → Run → Run
 left_if true x y = x
 left_if false x y = y
 
-abbrev left_of : List ℕ → Machine → Going → List Write → Run
+abbrev pub left_of : List ℕ → Machine → Going → List Write → Run
 left_of text m g ws = left_if g.ahead.on (ran m ws (asks text g.ahead)) (stops m ws g.refused)
 
 -- a run that is left, with a buffer filled so far, comes to a whole run from the buffer's first byte on
-record Comes (y : Run) (b : Page) (x : Run) (before : List ℕ) : Type 0 where
+pub record Comes (y : Run) (b : Page) (x : Run) (before : List ℕ) : Type 0 where
   machine : y.machine ≡ x.machine
   refused : y.refused ≡ x.refused
   answers : put_lines b (map told_line y.answers) ≡ put_lines (page (Next 0) before) (map told_line x.answers)
@@ -77,7 +77,7 @@ abbrev pub WentOn : List ℕ → Going → Answer → List ℕ → Going → Lis
 WentOn text g a out r out' = (r ≡ going_after (number_of a) text g a out) × (out' ≡ left_after (number_of a) g a out)
 
 -- on its way still, with fewer steps ahead than before
-abbrev Nearer : List ℕ → Machine → Going → Going → List Write → List ℕ → Run → List ℕ → Type 0
+abbrev pub Nearer : List ℕ → Machine → Going → Going → List Write → List ℕ → Run → List ℕ → Type 0
 Nearer text m g r ws out x before = Way text m r ws out x before × (length (asks text r.ahead) < length (asks text g.ahead))
 
 module _ {text : List ℕ} {x : Run} {before : List ℕ} where

@@ -1,5 +1,6 @@
 // A schedule's steps, run until the first that is refused.
 #![tactic(auto)]
+
 ghost use Rattle.std.specs.Prelude.{replicate};
 ghost use Rattle.texts.specs.Schedule.{steps_at};
 ghost use Rattle.writes.specs.Records.{no_write};

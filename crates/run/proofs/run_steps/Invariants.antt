@@ -7,9 +7,9 @@ use Rattle.writes.specs.Records.{no_write}
 use Rattle.run.proofs.run_steps.Given as goal
 
 -- what is left of the run comes to the whole
-abbrev pub invariant-loop : goal.invariant-loop
-invariant-loop l = Way l.text l.m l.g l.ws l.out (ran l.initial.m (replicate 1024 no_write) (steps_at l.text l.s)) l.initial.out
+abbrev pub invariant-loop-g : goal.invariant-loop-g
+invariant-loop-g l = Way l.text l.m l.g l.ws l.out (ran l.initial.m (replicate 1024 no_write) (steps_at l.text l.fn.s)) l.initial.out
 
 -- the steps ahead get fewer
-abbrev pub decreases-loop : goal.decreases-loop
-decreases-loop l = length (asks l.text l.g.ahead)
+abbrev pub decreases-loop-g : goal.decreases-loop-g
+decreases-loop-g l = length (asks l.text l.g.ahead)
