@@ -2,6 +2,7 @@
 // there. A line that is taken is written back after `taken`; one that is refused is shown after its number, as it is handed back.
 // Then whole texts, each with its answer: `taken`, or number and place.
 #![tactic(auto)]
+
 use fault::Refusal;
 use form::{Due, Header, Line};
 use line::LineRead;

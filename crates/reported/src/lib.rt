@@ -1,5 +1,6 @@
 // The report of any text: what each step was answered, what the queue holds at the end, and the first step that was refused.
 #![tactic(auto)]
+
 ghost use Rattle.std.specs.Prelude.{◌≡◌, ◌+◌, ◌-◌, ◌^◌, ◌≤◌, length};
 ghost use Rattle.printed.specs.Printed.{page, put_lines};
 ghost use Rattle.texts.specs.Schedule.{weights_at, schedule_of};

@@ -1,0 +1,16 @@
+use borrow.Author.Rules.{rules}
+use mathlib.Core.Path.{◌∙◌, sym}
+use Rattle.reported.proofs.Taken.{taken_fits}
+use Rattle.reported.proofs.Whole.{refused_report, taken_report}
+use Rattle.reported.proofs.report.Goals as goal
+
+pub report_run-requires : goal.report_run-requires
+report_run-requires c = taken_fits _ _ (sym c.judge.ensures ∙ c.in-Taken.is)
+
+pub returns-in-Taken : goal.returns-in-Taken
+returns-in-Taken c =
+    taken_report c.args.text.now _ (sym c.judge.ensures ∙ c.in-Taken.is) c.report_run.ensures
+
+pub returns-in-Refused : goal.returns-in-Refused
+returns-in-Refused c =
+    refused_report c.args.text.now _ _ (sym c.judge.ensures ∙ c.in-Refused.is) c.text_line-first.ensures
