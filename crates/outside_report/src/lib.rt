@@ -1,5 +1,6 @@
 // The report of a text for callers in another language: the bytes that the report program prints, in two lent buffers.
 #![tactic(auto)]
+
 ghost use Rattle.std.specs.Prelude.{◌≡◌};
 ghost use Rattle.outside_report.specs.Call.{called, end_of, lent, number_or};
 ghost use Rattle.outside_report.specs.Promise.{CallWhole};

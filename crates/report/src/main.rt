@@ -1,5 +1,6 @@
 // Reads a schedule on standard input and prints its report. The contracts say that there is room for all of it.
 #![tactic(auto)]
+
 ghost use Rattle.std.specs.Prelude.{◌≤◌, length};
 ghost use Rattle.printed.specs.Printed.{printed_text};
 ghost use Rattle.report.specs.Inside.{Inside};

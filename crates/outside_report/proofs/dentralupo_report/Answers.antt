@@ -1,0 +1,11 @@
+use borrow.Author.Rules.{rules}
+use Rattle.outside_report.proofs.Called.{called_by}
+use Rattle.outside_report.proofs.Whole.{call_whole}
+use Rattle.outside_report.proofs.dentralupo_report.Goals as goal
+
+pub returns : goal.returns
+returns c = (
+  called_by c.args.text.now c.args.first.now c.report-r.ensures c.put_printed-put.ensures c.end_of.ensures
+      c.end_of-2.ensures c.number_or-n.ensures c.number_or.ensures,
+  call_whole,
+)

@@ -1,0 +1,5 @@
+use borrow.Author.Rules.{rules}
+use Rattle.report.proofs.show_upto.Goals as goal
+
+pub show_first-requires : goal.show_first-requires
+show_first-requires c = rw c.in-Next.is at c.requires
