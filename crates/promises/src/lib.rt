@@ -1,6 +1,7 @@
 // The promises about the definitions. Each function does nothing: its contract is a promise, so that the check fails where one
 // no longer holds or is no longer proved.
 #![tactic(auto)]
+
 ghost use Rattle.digits.specs.Promise.{CountReadBack, CountOnlyText, WeightReadBack, WeightOnlyText};
 ghost use Rattle.texts.specs.Promise.{LineReadBack, LineOnlyText, LineOneText};
 ghost use Rattle.texts.specs.Promise.{ScheduleReadBack, ScheduleOnlyText, LineNumbered, JudgedNumbered};
