@@ -3,21 +3,15 @@
 
 BEGIN {
     public = "(^|[^a-z_])(pub ([a-z]+ |\"C\" )*|extern \"C\" )fn "
-    clause = " (requires|ensures|ghost) *$"
+    clause = " (requires|ensures|ghost)[*]?( [^ (){}]+)? *$"
     lends = "&('[a-z_]+ )?mut "
-    # what a lemma over the clauses of a function that is walked by hand takes first
-    model = "{M : Type 1} (𝓤 : URA M) (H : Heap 𝓤) (A : Atoms 𝓤) (mem : Memory → SProp 𝓤) (run : Routine → Fun 𝓤) "
-    # the words that lemmas are said in, and the modules that they have to be of
-    home["OneResult"] = home["OneResultOf"] = "Rattle·laws.proofs.Determined"
-    home["_≡_"] = "mathlib.Core.Path"
-    home["now"] = "denote.Ref"
-    home["ent"] = "base.Logic"
-    home["conj"] = home["fact"] = "contract.Monad"
-    # how laws defines the two that are its own; each is struck off where it is found
+    # the words that lemmas are said in, and the modules that they have to be of; `×` is built in, and nothing may bring another
+    home["OneResult"] = "Rattle.laws.proofs.Determined"
+    home["◌≡◌"] = "mathlib.Core.Path"
+    home["◌×◌"] = "no module"
+    # how laws defines the one that is its own; it is struck off where it is found
     defined["OneResult"] = "OneResult {K} {A} {R} {E} post = (k : K) (a : A k) (x y : R k) (e f : E k)" \
         " → post k a x e → post k a y f → x ≡ y"
-    defined["OneResultOf"] = "OneResultOf 𝓤 T c = (k : _) (a : _) (g : _) (x y : _) (e f : _)" \
-        " → ent 𝓤 (conj 𝓤 (c k a .ensures g x e) (c k a .ensures g y f)) (fact 𝓤 (x ≡ y))"
 }
 
 FNR == 1 {
@@ -51,6 +45,9 @@ line ~ /^(impl|(pub )?mod)[ <].*\{/ {
 }
 line ~ /^\}/ { owner = "" }
 
+# What a method of a trait promises stands at the trait, and no lemma here speaks of it.
+!inside && line ~ /^ *((pub(\([^)]*\))? )?(unsafe )?trait |(unsafe )?impl[ <].* for )/ { wrong(FILENAME, "a trait is not understood here") }
+
 # A type with a `&mut` in it would hide that from a signature.
 !inside && line ~ /^ *(pub(\([^)]*\))? )?(struct|enum|type) / {
     type = line
@@ -66,8 +63,8 @@ match(line, public) {
     own = line
     sub(/[^A-Za-z0-9_].*/, "", own)
     name = crate "::" module owner own
-    head = ""
-    asks = ensured = 0
+    head = signature = ""
+    clauses = 0
     inside = 1
 }
 inside { read_head(line) }
@@ -89,72 +86,76 @@ function leave() {
     inside = depth = 0
 }
 
-# The first brace that opens no clause opens the body.
-function read_head(text,  brace) {
+# The first brace that opens no clause opens the body. Leaves the `signature`, and of each clause its words in `heads` and its term in `terms`.
+function read_head(text,  brace, words) {
     if (depth == 0 && text ~ /\/\*/) wrong(name, "a comment in its head is not understood")
     while (match(text, /[{}]/)) {
         brace = substr(text, RSTART, 1)
         head = head substr(text, 1, RSTART - 1)
         text = substr(text, RSTART + 1)
-        if (brace == "{" && depth == 0) {
-            if (head !~ clause) {
+        if (depth == 0) {
+            words = ""
+            if (brace == "{" && match(head, clause)) {
+                words = plain(substr(head, RSTART))
+                head = substr(head, 1, RSTART - 1)
+            }
+            if (clauses == 0) signature = plain(head)
+            if (brace == "}" || clauses && plain(head) != "") wrong(name, "its clauses are not understood")
+            head = ""
+            if (words == "") {
                 inside = 0
                 row()
                 return
             }
-            if (head ~ / requires *$/) asks++
-            if (head ~ / ensures *$/) ensured++
+            heads[++clauses] = words
+            depth = 1
+        } else {
+            depth += brace == "{" ? 1 : -1
+            if (depth > 0) head = head brace
+            else {
+                terms[clauses] = plain(head)
+                head = ""
+            }
         }
-        depth += brace == "{" ? 1 : -1
-        head = head brace
     }
     head = head text " "
 }
 
+function plain(text) {
+    gsub(/ +/, " ", text)
+    gsub(/^ | $/, "", text)
+    return text
+}
+
 function row(  said, by) {
-    gsub(/ +/, " ", head)
-    if (asks) wrong(name, "it has a `requires`")
-    if (!ensured) wrong(name, "it has no `ensures`")
     said = equations()
     by = lemma(due())
     printf "| `%s` | %s | %s |\n", name, said == "" ? "NONE" : "`" said "`", by
 }
 
-# What the contract says, in short.
-function equations(  said, rest, part, word, after, before, behind, found) {
+# What the contract says: the terms of its `ensures`, each behind its name where it has one.
+function equations(  said, label, i) {
     said = ""
-    rest = head
-    while (match(rest, /ensures \{ λ [a-z_]+\. ⌜ /)) {
-        rest = substr(rest, RSTART + RLENGTH)
-        part = rest
-        sub(/ ⌝ \}.*/, "", part)
-        while (match(part, /now \([a-z_]+ \.(entry|exit)\)/)) {
-            word = substr(part, RSTART + 5, RLENGTH - 6)
-            after = word ~ /exit/ ? "′" : ""
-            sub(/ .*/, "", word)
-            # brackets around it go too
-            before = substr(part, 1, RSTART - 1)
-            behind = substr(part, RSTART + RLENGTH)
-            if (before ~ /\($/ && behind ~ /^\)/) { sub(/\($/, "", before); sub(/^\)/, "", behind) }
-            part = before word after behind
+    for (i = 1; i <= clauses; i++) {
+        if (heads[i] ~ /^requires/) wrong(name, "it has a `requires`")
+        else if (heads[i] ~ /^ghost/) wrong(name, "it has a `ghost` clause")
+        else if (heads[i] !~ /^ensures( [a-z_]+)?$/) wrong(name, "it has an `ensures` that is not of the form `ensures { .. }` or `ensures name { .. }`")
+        else {
+            label = heads[i]
+            sub(/^ensures */, "", label)
+            said = said (said == "" ? "" : "; ") (label == "" ? "" : label ": ") terms[i]
         }
-        gsub(/ \.entry/, "", part)
-        said = said (said == "" ? "" : "; ") part
-        found++
     }
-    if (found < ensured) wrong(name, "it has an `ensures` that is not of the form `ensures { λ r. ⌜ .. ⌝ }`")
+    if (said == "") wrong(name, "it has no `ensures`")
     return said
 }
 
 # What is to be concluded of two results x and y, and of e and f, the parameters as each call leaves them: that the same is returned, and
 # the same left behind each `&mut`. Of a reference that is returned it is what it refers to, since no contract speaks of its address; a
 # struct that holds one, as a reader, is said whole.
-function due(  signature, returned, passed, said, path, n, i) {
-    signature = head
-    sub(/ (requires|ensures|ghost) \{.*/, "", signature)
+function due(  returned, passed, said, path, n, i) {
     gsub(/<[^<>]*>/, "", signature)
-    sub(/ *$/, "", signature)
-    if (signature !~ /^[A-Za-z0-9_]+\([^()]*\)( -> [^()]+)?$/) {
+    if (signature ~ / (requires|ensures|ghost)/ || signature !~ /^[A-Za-z0-9_]+\([^()]*\)( -> [^()]+)?$/) {
         wrong(name, "its signature is not understood: `" signature "`")
         return ""
     }
@@ -164,11 +165,11 @@ function due(  signature, returned, passed, said, path, n, i) {
     sub(/\).*/, "", passed)
     if (returned ~ "^" lends) wrong(name, "it returns a `&mut`: what its lemma has to say is not known here")
     said = path = ""
-    if (returned != "") said = returned ~ /^&/ ? "now x ≡ now y" : "x ≡ y"
+    if (returned != "") said = returned ~ /^&/ ? "x.now ≡ y.now" : "x ≡ y"
     n = split(passed, parameter, ",")
     for (i = 1; i <= n; i++) {
-        if (parameter[i] ~ lends) said = also(said, "now (e " path ".0) ≡ now (f " path ".0)")
-        path = path ".1 "
+        if (parameter[i] ~ lends) said = also(said, "e" path ".0.now ≡ f" path ".0.now")
+        path = path ".1"
     }
     # it would hold only where there is something to pass
     if (said == "" && passed != "") wrong(name, "it returns and changes nothing, so it is a promise, and a promise takes no parameter")
@@ -184,7 +185,6 @@ function also(said, more) {
 function lemma(wanted,  called, said, concludes) {
     if (wanted == "") return "nothing is returned"
     called = own "-determined"
-    gsub(/_/, "-", called)
     if (!(called in says)) {
         wrong(name, "there is no lemma `" called "` in " lemmas)
         return "NONE"
@@ -202,12 +202,12 @@ function lemma(wanted,  called, said, concludes) {
 function own_contract(said,  word, path, due_there) {
     path = module owner own
     gsub(/::/, ".", path)
+    due_there = "Rattle." crate ".proofs." path ".Reads"
     alias = ""
-    while (match(said, /[^ ()]+\.(Post|clauses|ended)/)) {
+    while (match(said, /[^ ()]+\.Post/)) {
         alias = word = substr(said, RSTART, RLENGTH)
         said = substr(said, RSTART + RLENGTH)
         sub(/\.[A-Za-z]+$/, "", alias)
-        due_there = "Rattle·" crate "·proofs.proofs." path (word ~ /\.Post$/ ? ".Reads" : "")
         if (bound[alias] != due_there) {
             if (bound[alias] == "") bound[alias] = "bound to nothing"
             wrong(name, "its lemma speaks of `" word "`, and `" alias "` is " bound[alias] ", not " due_there)
@@ -220,23 +220,9 @@ function own_contract(said,  word, path, due_there) {
 
 # What a lemma of a known shape, over the contract `alias`, concludes; "" of any other.
 function conclusion(said,  given) {
-    if (begins(said, model)) {
-        said = substr(said, length(model) + 1)
-        sub(/^→ /, "", said)
-    }
     if (said == "OneResult " alias ".Post") return "x ≡ y"
-    if (said == "OneResultOf 𝓤 " alias ".ended (" alias ".clauses 𝓤 H A mem run)") return "x ≡ y"
     given = "(κs : _) (a : _) (x y : _) (e f : _) → " alias ".Post κs a x e → " alias ".Post κs a y f → "
-    if (begins(said, given)) return substr(said, length(given) + 1)
-    # the ghost value is the only one there is, or any
-    return walked(said, "", "tt") walked(said, "(g : _) ", "g")
-}
-
-function walked(said, binder, ghost,  ensures, given) {
-    ensures = alias ".clauses 𝓤 H A mem run κs a .ensures " ghost
-    given = "(κs : _) (a : _) " binder "(x y : _) (e f : _) → ent 𝓤 (conj 𝓤 (" ensures " x e) (" ensures " y f)) (fact 𝓤 ("
-    if (!begins(said, given) || said !~ /\)\)$/) return ""
-    return substr(said, length(given) + 1, length(said) - length(given) - 2)
+    return begins(said, given) ? substr(said, length(given) + 1) : ""
 }
 
 function begins(text, front) {
@@ -244,34 +230,26 @@ function begins(text, front) {
 }
 
 # The crate's lemmas: in `says` the statement of each that is proved there, in `bound` the module that an alias stands for.
-function read_lemmas(  line, word, within, open, said, at) {
+function read_lemmas(  line, word, open, said, at) {
     split("", says)
     split("", bound)
-    within = open = ""
+    open = ""
     while ((getline line <lemmas) > 0) {
         if (line ~ /\{-/) wrong(lemmas, "a comment in braces is not understood here")
         sub(/(^| )--( .*)?$/, "", line)
         if (crate == "laws") for (word in defined) if (line == defined[word]) delete defined[word]
         read_names(line)
-        # what a module takes, each lemma in it takes
-        if (line ~ /^[^ ]/) within = ""
-        if (line ~ /^ *module /) {
-            within = line
-            if (!sub(/^module _ /, "", within) || !sub(/where$/, "", within)) within = line " "
-        }
-        if (line ~ /^ *pub [^ ]+-determined :/) {
+        if (line ~ /^pub [^ ]+-determined :/) {
             at = index(line, " :")
             open = substr(line, 1, at - 1)
-            sub(/^ *pub /, "", open)
-            said = within
+            sub(/^pub /, "", open)
+            said = ""
             line = substr(line, at + 2)
         }
         if (open == "") continue
         sub(/^ +/, "", line)
         if (begins(line, open " ")) {
-            gsub(/ +/, " ", said)
-            gsub(/^ | $/, "", said)
-            says[open] = said
+            says[open] = plain(said)
             open = ""
         } else said = said " " line
     }
@@ -294,12 +272,14 @@ function read_names(line,  word, from, n, i) {
         sub(/\}$/, "", line)
         n = split(line, word, ", *")
         for (i = 1; i <= n; i++) bring(word[i], from)
-    } else if (line ~ /^ *(pub )?(use|open) /) {
+    } else if (line ~ /^ *(pub )?(use|open|package|module|syntax|axiom|mutual) /) {
         wrong(lemmas, "`" line "` is not understood here")
+    } else if (line ~ /^ +:/) {
+        wrong(lemmas, "a `:` that begins a line is not understood here")
     } else if (line ~ / :/) {
         sub(/ :.*/, "", line)
         sub(/^.* /, "", line)
-        bring(line, "Rattle·" crate ".proofs.Determined")
+        bring(line, "Rattle." crate ".proofs.Determined")
     }
 }
 
