@@ -14,11 +14,9 @@ use Rattle.rules.specs.Queue.{showing, Queue}
 use Rattle.rules.specs.Step.{content_of}
 use Rattle.run.proofs.Prefix.{ran_through}
 use Rattle.run.specs.Prefix.{told_in, AllTaken, refused_next}
-use Rattle.run.specs.Run.{Run, Told}
+use Rattle.run.specs.Run.{Run}
 use Rattle.state.specs.declared.Machine.{Machine}
-use Rattle.step.specs.declared.Answer.TheVariants.{Ok}
 use Rattle.step.specs.declared.Step.{Step}
-use Rattle.texts.specs.Schedule.{Schedule}
 use Rattle.view.specs.declared.View.{View}
 use Rattle.writes.specs.Records.{no_write}
 use Rattle.writes.specs.declared.Write.{Write}

@@ -1,7 +1,7 @@
 -- What a run comes to: at most 4,096 answers, a refusal's number up to 99, a queue of at most 16 ranks. Assumes nothing.
 use Prim.Native.Nat.{◌+◌, ◌*◌, ◌-◌, ◌<◌, ◌≤◌, suc, zero, ℕ}
 use lib.ListN.{length, length-append}
-use mathlib.Core.Bool.{Bool, false, false≢true, not, true}
+use mathlib.Core.Bool.{Bool, false, false≢true, true}
 use mathlib.Core.List.{List, [], ◌∷◌, map}
 use mathlib.Core.Logic.{◌⊎◌, inl, inr, ⊎_elim}
 use mathlib.Core.Path.{◌∙◌, ◌≡◌, ap, refl, sym}
@@ -27,7 +27,6 @@ use Rattle.standing.proofs.Bounds.{bounds}
 use Rattle.standing.specs.Stands.{in_shape, stands}
 use Rattle.state.specs.declared.Machine.{Machine}
 use Rattle.step.specs.Answer.{number_of}
-use Rattle.step.specs.Limit.{most}
 use Rattle.step.specs.declared.Answer.TheVariants.{Ok}
 use Rattle.step.specs.declared.Step.{Step}
 use Rattle.writes.specs.declared.Write.{Write}

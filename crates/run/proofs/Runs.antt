@@ -2,7 +2,7 @@
 use Prim.Native.Nat.{◌<◌, suc, zero, ℕ}
 use lib.ListN.{length}
 use mathlib.Core.Bool.{Bool, true, false, false≢true}
-use mathlib.Core.List.{List, [], map}
+use mathlib.Core.List.{List, map}
 use mathlib.Core.Path.{◌∙◌, ◌≡◌, ap, refl, sym}
 use native.Mathlib.Omega.{arith}
 use Rattle.decision.proofs.Known.{as_known}

@@ -1,5 +1,5 @@
 -- What a run asks next is what its text asks, and what it comes to after a step, taken or refused. Assumes nothing.
-use Prim.Native.Nat.{◌-◌, suc, zero, ℕ}
+use Prim.Native.Nat.{suc, zero, ℕ}
 use mathlib.Core.Bool.{Bool, false, true}
 use mathlib.Core.List.{List, map}
 use mathlib.Core.Path.{◌≡◌, refl}

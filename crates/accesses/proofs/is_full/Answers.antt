@@ -1,5 +1,4 @@
 use borrow.Author.Tests.{le-leb, lt-leb}
-use borrow.Author.Rules.{rules}
 use Rattle.laws.specs.Tests.{◌or◌}
 use Rattle.accesses.proofs.is_full.Goals as goal
 

@@ -1,4 +1,3 @@
-use borrow.Author.Rules.{rules}
 use Rattle.accesses.proofs.is_outdated.Goals as goal
 
 pub returns-in-Reads : goal.returns-in-Reads

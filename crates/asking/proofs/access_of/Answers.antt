@@ -1,4 +1,3 @@
-use borrow.Author.Rules.{rules}
 use Rattle.asking.proofs.access_of.Goals as goal
 
 pub returns-in-Get : goal.returns-in-Get

@@ -1,4 +1,3 @@
-use borrow.Author.Rules.{rules}
 use Rattle.asking.specs.Ask.{ask_by}
 use Rattle.asking.proofs.ask_by.Goals as goal
 

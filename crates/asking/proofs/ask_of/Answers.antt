@@ -1,5 +1,4 @@
 use mathlib.Core.Path.{sym, ◌∙◌}
-use borrow.Author.Rules.{rules}
 use Rattle.asking.specs.Ask.{ask_of}
 use Rattle.asking.proofs.Sizes.{small}
 use Rattle.asking.proofs.ask_of.Goals as goal

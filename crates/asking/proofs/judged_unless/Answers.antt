@@ -1,4 +1,3 @@
-use borrow.Author.Rules.{rules}
 use Rattle.asking.proofs.judged_unless.Goals as goal
 
 pub returns-then-known : goal.returns-then-known

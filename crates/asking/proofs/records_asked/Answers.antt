@@ -1,5 +1,3 @@
-use borrow.Author.Rules.{rules}
-use borrow.Author.Tests.{not-true, not-false}
 use Rattle.asking.proofs.records_asked.Goals as goal
 
 pub returns-then-not-known : goal.returns-then-not-known

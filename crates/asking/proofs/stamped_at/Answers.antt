@@ -1,4 +1,3 @@
-use borrow.Author.Rules.{rules}
 use Rattle.asking.proofs.stamped_at.Goals as goal
 
 pub returns-in-PutWrite : goal.returns-in-PutWrite

@@ -1,4 +1,3 @@
-use borrow.Author.Rules.{rules}
 use Rattle.atomic.specs.Atomic.{met}
 use Rattle.atomic.proofs.meet.Goals as goal
 

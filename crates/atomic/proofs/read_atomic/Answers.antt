@@ -1,4 +1,3 @@
-use borrow.Author.Rules.{rules}
 use Rattle.atomic.specs.Atomic.{read_atomic}
 use Rattle.atomic.proofs.read_atomic.Goals as goal
 

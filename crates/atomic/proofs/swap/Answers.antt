@@ -1,4 +1,3 @@
-use borrow.Author.Rules.{rules}
 use borrow.Author.Tests.{eq-eqb, ne_eqb}
 use Rattle.atomic.specs.Atomic.{swapped_of}
 use Rattle.atomic.proofs.swap.Goals as goal

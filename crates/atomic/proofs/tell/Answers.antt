@@ -1,4 +1,3 @@
-use borrow.Author.Rules.{rules}
 use Rattle.atomic.specs.Atomic.{told}
 use Rattle.atomic.proofs.tell.Goals as goal
 

@@ -1,4 +1,3 @@
-use borrow.Author.Rules.{rules}
 use Rattle.atomic.specs.Atomic.{write_atomic}
 use Rattle.atomic.proofs.write_atomic.Goals as goal
 

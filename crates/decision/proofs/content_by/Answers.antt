@@ -1,4 +1,3 @@
-use borrow.Author.Rules.{rules}
 use Rattle.decision.specs.Decision.{content_by}
 use Rattle.decision.proofs.content_by.Goals as goal
 

@@ -1,4 +1,3 @@
-use borrow.Author.Tests.{not-true, not-false}
 use Rattle.decision.proofs.content_if.Goals as goal
 
 pub returns-then-not-stand : goal.returns-then-not-stand

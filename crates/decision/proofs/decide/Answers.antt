@@ -1,6 +1,5 @@
 use mathlib.Core.Path.{◌≡◌, refl}
 use Prim.Native.Nat.{ℕ, zero, suc}
-use borrow.Author.Rules.{rules}
 use Rattle.refusal.proofs.Passed.{passed}
 use Rattle.refusal.specs.Refusal.{refusal_by}
 use Rattle.rules.specs.Step.{refused_by, decided_by}

@@ -1,4 +1,3 @@
-use borrow.Author.Rules.{rules}
 use Rattle.rules.specs.Access.{accessed}
 use Rattle.decision.proofs.make_access.Goals as goal
 

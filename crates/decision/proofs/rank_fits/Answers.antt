@@ -1,4 +1,3 @@
-use borrow.Author.Rules.{rules}
 use borrow.Author.Tests.{lt-ltb, le-ltb}
 use Rattle.decision.specs.Decision.{rank_fits}
 use Rattle.laws.specs.Tests.{◌or◌}

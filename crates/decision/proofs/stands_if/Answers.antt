@@ -1,4 +1,3 @@
-use borrow.Author.Rules.{rules}
 use Rattle.decision.proofs.stands_if.Goals as goal
 
 pub returns-then-asked : goal.returns-then-asked

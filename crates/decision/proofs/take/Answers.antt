@@ -1,5 +1,4 @@
 use Prim.Native.Nat.{◌-◌}
-use borrow.Author.Rules.{rules}
 use Rattle.rules.proofs.Accessed.{accessed_shape, accessed_place}
 use Rattle.rules.specs.Step.{taken_by}
 use Rattle.decision.proofs.take.Goals as goal

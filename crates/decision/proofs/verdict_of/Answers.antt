@@ -1,5 +1,4 @@
 use mathlib.Core.Path.{sym, ◌∙◌}
-use borrow.Author.Rules.{rules}
 use Rattle.decision.specs.Decision.{verdict_of}
 use Rattle.decision.proofs.Known.{judged}
 use Rattle.decision.proofs.verdict_of.Goals as goal

@@ -1,12 +1,9 @@
 use mathlib.Core.Path.{◌≡◌, refl, sym, ap, ◌∙◌}
 use mathlib.Core.Bool.{true, false}
-use Prim.Native.Nat.{◌+◌, ◌*◌, ◌^◌, ◌≤◌}
 use native.Mathlib.Omega.{arith}
-use borrow.Author.Tests.{not-true, not-false}
-use borrow.Author.Rules.{rules}
 use lib.ListN.{get_or}
 use Rattle.digits.proofs.Digits.{digit_low, digit_high, digit_inside, step_yes, stop_got, stop_bad, step_end, value_room, below}
-use Rattle.digits.specs.Reading.{is_digit, digits}
+use Rattle.digits.specs.Reading.{is_digit}
 use Rattle.digits.proofs.read_digits.Goals as goal
 use Rattle.digits.proofs.read_digits.Goals.{Else-not-is_digit, Then-not-is_digit}
 

@@ -1,12 +1,6 @@
-use mathlib.Core.Path.{◌≡◌, refl, sym, ap, ◌∙◌}
-use mathlib.Core.Bool.{true, false}
+use mathlib.Core.Path.{◌≡◌}
 use Prim.Native.Nat.{◌+◌, ◌*◌, ◌^◌, ◌≤◌}
-use native.Mathlib.Omega.{arith}
-use borrow.Author.Tests.{not-true, not-false}
-use borrow.Author.Rules.{rules}
-use lib.ListN.{get_or}
-use Rattle.digits.proofs.Digits.{digit_low, digit_high, digit_inside, step_yes, stop_got, stop_bad, step_end, value_room, below}
-use Rattle.digits.specs.Reading.{is_digit, digits}
+use Rattle.digits.specs.Reading.{digits}
 use Rattle.digits.proofs.read_digits.Given as goal
 
 abbrev pub invariant-loop-left : goal.invariant-loop-left

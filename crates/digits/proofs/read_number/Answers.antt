@@ -1,6 +1,5 @@
 use mathlib.Core.Path.{sym, ◌∙◌}
 use native.Mathlib.Omega.{arith}
-use borrow.Author.Rules.{rules}
 use Rattle.digits.proofs.Digits.{inside, number_zero, number_rest}
 use Rattle.digits.proofs.read_number.Goals as goal
 

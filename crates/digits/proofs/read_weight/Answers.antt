@@ -1,6 +1,5 @@
 use mathlib.Core.Path.{◌≡◌, sym, ◌∙◌}
 use native.Mathlib.Omega.{arith}
-use borrow.Author.Rules.{rules}
 use Rattle.digits.proofs.Digits.{inside, weight_more, weight_none, weight_bad, number_bound}
 use Rattle.digits.specs.Reading.{number}
 use Rattle.digits.specs.declared.Reading.TheVariants.{Got}

@@ -1,6 +1,5 @@
 use mathlib.Core.Path.{sym}
 use Prim.Native.Nat.{◌≤◌}
-use borrow.Author.Rules.{rules}
 use lib.ListN.{length}
 use Rattle.fault.proofs.Laws.{line_part, end_in, line_out}
 use Rattle.fault.proofs.line_at.Goals as goal

@@ -1,9 +1,6 @@
-use mathlib.Core.Path.{◌≡◌, refl, sym, ◌∙◌}
-use Prim.Native.Nat.{◌-◌, ◌≤◌}
+use mathlib.Core.Path.{refl, sym, ◌∙◌}
 use native.Mathlib.Omega.{arith}
-use lib.ListN.{length}
 use Rattle.fault.proofs.Laws.{end_lf, end_more, end_out}
-use Rattle.fault.specs.Refusal.{line_end}
 use Rattle.fault.proofs.line_end.Goals as goal
 
 pub loop-i-init : goal.loop-i-init

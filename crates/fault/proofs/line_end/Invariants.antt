@@ -1,8 +1,6 @@
-use mathlib.Core.Path.{◌≡◌, refl, sym, ◌∙◌}
+use mathlib.Core.Path.{◌≡◌}
 use Prim.Native.Nat.{◌-◌, ◌≤◌}
-use native.Mathlib.Omega.{arith}
 use lib.ListN.{length}
-use Rattle.fault.proofs.Laws.{end_lf, end_more, end_out}
 use Rattle.fault.specs.Refusal.{line_end}
 use Rattle.fault.proofs.line_end.Given as goal
 

@@ -1,4 +1,3 @@
-use borrow.Author.Rules.{rules}
 use Rattle.form.proofs.due_of.Goals as goal
 
 pub returns-in-HeaderLine : goal.returns-in-HeaderLine

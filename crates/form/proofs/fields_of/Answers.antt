@@ -1,5 +1,4 @@
 use mathlib.Core.Path.{sym, ◌∙◌}
-use borrow.Author.Rules.{rules}
 use Rattle.form.proofs.fields_of.Goals as goal
 
 pub returns-in-HeaderLine : goal.returns-in-HeaderLine

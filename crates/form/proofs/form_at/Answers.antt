@@ -1,6 +1,5 @@
 use mathlib.Core.Path.{ap, sym, ◌∙◌}
 use native.Mathlib.Omega.{arith}
-use borrow.Author.Rules.{rules}
 use Rattle.form.proofs.Table.{bare_from}
 use Rattle.form.specs.Table.{bare_form, form_at}
 use Rattle.form.proofs.form_at.Goals as goal

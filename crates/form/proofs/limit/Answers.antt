@@ -1,5 +1,4 @@
 use mathlib.Core.Path.{sym}
-use borrow.Author.Rules.{rules}
 use Rattle.form.proofs.Range.{count_in, count_low, count_high, thousandths_in, thousandths_out, nothing_in, nothing_out}
 use Rattle.form.proofs.limit.Goals as goal
 

@@ -1,4 +1,3 @@
-use borrow.Author.Rules.{rules}
 use Rattle.form.proofs.line_of.Goals as goal
 
 pub returns-in-HeaderDue : goal.returns-in-HeaderDue

@@ -1,4 +1,3 @@
-use borrow.Author.Rules.{rules}
 use Rattle.form.proofs.step_fields.Goals as goal
 
 pub returns-in-Get : goal.returns-in-Get

@@ -1,5 +1,4 @@
 use mathlib.Core.Path.{sym, ◌∙◌}
-use borrow.Author.Rules.{rules}
 use lib.ListN.{take, drop, get_or-append}
 use Rattle.form.proofs.Table.{any_default}
 use Rattle.form.specs.Table.{step_forms, bare, forms, form_at}

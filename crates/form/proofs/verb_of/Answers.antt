@@ -1,6 +1,5 @@
 use mathlib.Core.Path.{sym}
-use Prim.Native.Nat.{zero-le}
-use Rattle.form.proofs.Table.{last_verb, above}
+use Rattle.form.proofs.Table.{last_verb}
 use Rattle.form.specs.Line.{verb_of}
 use native.Mathlib.Omega.{arith}
 use Rattle.form.proofs.verb_of.Goals as goal

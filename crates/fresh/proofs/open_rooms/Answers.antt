@@ -1,4 +1,3 @@
-use borrow.Author.Rules.{rules}
 use lib.Seq.{length-take-le}
 use mathlib.Core.Path.{ap, sym}
 use Rattle.opening.specs.declared.Opened.{Opened}

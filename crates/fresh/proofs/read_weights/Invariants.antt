@@ -1,13 +1,9 @@
-use Prim.Native.Nat.{◌+◌, ◌-◌, ◌≤◌}
-use borrow.Author.Rules.{rules}
-use lib.ListN.{length, length-set}
+use Prim.Native.Nat.{◌+◌, ◌≤◌}
+use lib.ListN.{length}
 use lib.Seq.{sets}
-use mathlib.Core.List.{List, ◌∷◌, map}
-use mathlib.Core.Path.{◌∙◌, ◌≡◌, ap, refl, sym}
-use native.Mathlib.Omega.{arith}
+use mathlib.Core.List.{map}
+use mathlib.Core.Path.{◌≡◌}
 use Rattle.form.specs.declared.Due.TheVariants.{WeightDue}
-use Rattle.form.specs.declared.Line.{Line}
-use Rattle.fresh.proofs.Lines.{from_end, from_line, stored}
 use Rattle.texts.specs.Schedule.{lines_from, weight_in}
 use Rattle.fresh.proofs.read_weights.Given as goal
 

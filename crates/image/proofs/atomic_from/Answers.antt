@@ -1,4 +1,3 @@
-use borrow.Author.Rules.{rules}
 use Rattle.image.specs.Image.{atomic_from}
 use Rattle.image.proofs.atomic_from.Goals as goal
 

@@ -1,10 +1,7 @@
 use mathlib.Core.Path.{◌≡◌, refl}
-use Prim.Native.Nat.{◌-◌, ◌≤◌}
 use native.Mathlib.Numerals.{add-one}
 use native.Mathlib.Omega.{arith}
 use borrow.Author.Rules.{rules}
-use lib.ListN.{replicate}
-use Rattle.image.specs.Image.{first_at, word}
 use Rattle.laws.specs.Lists.{filled}
 use Rattle.image.proofs.firsts_from.Goals as goal
 

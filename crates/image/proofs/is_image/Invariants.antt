@@ -1,12 +1,9 @@
-use mathlib.Core.Path.{◌≡◌, sym}
-use mathlib.Core.Bool.{Bool, true, false}
+use mathlib.Core.Path.{◌≡◌}
+use mathlib.Core.Bool.{Bool, true}
 use mathlib.Core.List.{List}
 use Prim.Native.Nat.{ℕ, ◌-◌, ◌≤◌}
-use borrow.Author.Rules.{rules}
-use borrow.Author.Tests.{not-true, not-false, le-leb, lt-leb}
-use Rattle.laws.proofs.Tests.{together, fails_left, fails_right, all_none, all_more, all_fails, all_done}
 use Rattle.laws.specs.Tests.{all_below}
-use Rattle.image.specs.Image.{thread_at, is_place, is_image}
+use Rattle.image.specs.Image.{thread_at, is_place}
 use Rattle.image.proofs.is_image.Given as goal
 
 -- the test of the thread at j

@@ -1,12 +1,11 @@
 use mathlib.Core.Path.{◌≡◌, sym}
 use mathlib.Core.Bool.{Bool, true, false}
 use mathlib.Core.List.{List}
-use Prim.Native.Nat.{ℕ, ◌+◌, ◌-◌, ◌≤◌}
+use Prim.Native.Nat.{ℕ, ◌+◌}
 use borrow.Author.Rules.{rules}
 use borrow.Author.Tests.{eq-eqb, ne_eqb}
 use lib.Dec.{eqb}
 use Rattle.laws.proofs.Tests.{all_none, all_more, all_fails, all_done}
-use Rattle.laws.specs.Tests.{all_below}
 use Rattle.image.specs.Image.{place_words, word, place_from, is_place}
 use Rattle.image.proofs.is_place.Goals as goal
 

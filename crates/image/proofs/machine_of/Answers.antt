@@ -1,4 +1,3 @@
-use borrow.Author.Rules.{rules}
 use Rattle.image.specs.Image.{machine_of}
 use Rattle.image.proofs.machine_of.Goals as goal
 

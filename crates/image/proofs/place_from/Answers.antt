@@ -1,4 +1,3 @@
-use borrow.Author.Rules.{rules}
 use Rattle.image.specs.Image.{place_from}
 use Rattle.image.proofs.place_from.Goals as goal
 

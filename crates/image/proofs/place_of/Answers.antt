@@ -1,5 +1,4 @@
 use mathlib.Core.Path.{refl, sym}
-use borrow.Author.Rules.{rules}
 use Rattle.laws.proofs.Lists.{within, past}
 use Rattle.image.specs.Image.{place_of, places}
 use Rattle.image.proofs.place_of.Goals as goal

@@ -1,4 +1,3 @@
-use borrow.Author.Rules.{rules}
 use Rattle.image.proofs.place_words.Goals as goal
 
 pub returns-in-PutStatus : goal.returns-in-PutStatus

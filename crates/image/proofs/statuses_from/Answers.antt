@@ -1,13 +1,8 @@
 use mathlib.Core.Path.{◌≡◌}
-use Prim.Native.Nat.{◌-◌, ◌≤◌}
 use native.Mathlib.Numerals.{add-one}
 use native.Mathlib.Omega.{arith}
 use borrow.Author.Rules.{rules}
-use lib.ListN.{replicate}
 use Rattle.laws.specs.Lists.{filled}
-use Rattle.image.specs.Image.{cell_at, atomic_from}
-use Rattle.state.specs.State.{zero_atomic}
-use Rattle.state.specs.declared.Name.TheVariants.{Status}
 use Rattle.image.proofs.statuses_from.Goals as goal
 
 pub loop-i-init : goal.loop-i-init

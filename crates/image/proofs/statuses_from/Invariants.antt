@@ -1,8 +1,5 @@
 use mathlib.Core.Path.{◌≡◌}
 use Prim.Native.Nat.{◌-◌, ◌≤◌}
-use native.Mathlib.Numerals.{add-one}
-use native.Mathlib.Omega.{arith}
-use borrow.Author.Rules.{rules}
 use lib.ListN.{replicate}
 use Rattle.laws.specs.Lists.{filled}
 use Rattle.image.specs.Image.{cell_at, atomic_from}

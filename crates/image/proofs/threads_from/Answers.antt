@@ -1,13 +1,8 @@
 use mathlib.Core.Path.{◌≡◌, refl}
-use Prim.Native.Nat.{◌-◌, ◌≤◌}
 use native.Mathlib.Numerals.{add-one}
 use native.Mathlib.Omega.{arith}
 use borrow.Author.Rules.{rules}
-use lib.ListN.{replicate}
 use Rattle.laws.specs.Lists.{filled}
-use Rattle.image.specs.Image.{thread_at, place_from}
-use Rattle.state.specs.State.{at}
-use Rattle.state.specs.declared.Place.TheVariants.{Idle}
 use Rattle.image.proofs.threads_from.Goals as goal
 
 pub loop-i-init : goal.loop-i-init

@@ -1,12 +1,7 @@
-use mathlib.Core.Path.{◌≡◌, ap}
+use mathlib.Core.Path.{◌≡◌}
 use Prim.Native.Nat.{◌+◌, ◌-◌, ◌≤◌}
-use native.Mathlib.Numerals.{add-one}
-use native.Mathlib.Omega.{arith}
-use borrow.Author.Rules.{rules}
 use lib.ListN.{get_or, replicate}
 use Rattle.laws.specs.Lists.{filled}
-use Rattle.image.specs.Image.{view_from}
-use Rattle.view.specs.View.{view_of}
 use Rattle.image.proofs.view_from.Given as goal
 
 abbrev pub invariant-loop-i : goal.invariant-loop-i

@@ -1,12 +1,8 @@
 use mathlib.Core.Path.{◌≡◌}
-use Prim.Native.Nat.{◌-◌, ◌≤◌}
 use native.Mathlib.Numerals.{add-one}
 use native.Mathlib.Omega.{arith}
 use borrow.Author.Rules.{rules}
-use lib.ListN.{replicate}
 use Rattle.laws.specs.Lists.{filled}
-use Rattle.image.specs.Image.{view_at, view_from}
-use Rattle.view.specs.View.{zero_view}
 use Rattle.image.proofs.views_from.Goals as goal
 
 pub loop-i-init : goal.loop-i-init

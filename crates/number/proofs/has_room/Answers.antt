@@ -1,6 +1,5 @@
 use mathlib.Core.Path.{sym}
 use native.Mathlib.Omega.{arith}
-use borrow.Author.Rules.{rules}
 use Rattle.number.proofs.Stores.{room_rest, room_none}
 use Rattle.number.proofs.has_room.Goals as goal
 

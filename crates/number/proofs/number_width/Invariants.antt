@@ -1,8 +1,6 @@
-use mathlib.Core.Path.{◌≡◌, ap}
-use Prim.Native.Nat.{◌+◌, ◌/◌, ◌%◌, ◌≤◌}
-use native.Mathlib.Omega.{arith}
+use mathlib.Core.Path.{◌≡◌}
+use Prim.Native.Nat.{◌+◌, ◌≤◌}
 use lib.ListN.{length}
-use Rattle.number.proofs.Decimal.{text_small, text_big, length_snoc}
 use Rattle.number.specs.Text.{number_text}
 use Rattle.number.proofs.number_width.Given as goal
 

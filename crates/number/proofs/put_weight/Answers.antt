@@ -1,6 +1,5 @@
 use mathlib.Core.Path.{◌≡◌, sym, ◌∙◌}
 use mathlib.Core.Bool.{true}
-use borrow.Author.Rules.{rules}
 use lib.ListN.{length}
 use Rattle.number.proofs.Stores.{room_yes, put_done, put_short}
 use Rattle.number.specs.Buffer.{room}

@@ -1,6 +1,5 @@
 use Prim.Native.Nat.{◌/◌}
 use native.Mathlib.Omega.{arith}
-use borrow.Author.Rules.{rules}
 use Rattle.number.proofs.Decimal.{length_text, length_weight}
 use Rattle.number.proofs.weight_width.Goals as goal
 

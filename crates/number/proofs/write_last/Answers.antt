@@ -1,12 +1,9 @@
-use mathlib.Core.Path.{◌≡◌, refl, sym, ◌∙◌}
-use Prim.Native.Nat.{◌≤◌}
+use mathlib.Core.Path.{refl, sym, ◌∙◌}
 use native.Mathlib.Omega.{arith}
 use borrow.Author.Rules.{rules}
-use lib.ListN.{length, length-set}
-use lib.Seq.{sets}
+use lib.ListN.{length-set}
 use Rattle.number.proofs.Decimal.{length_last}
 use Rattle.number.proofs.Stores.{put_step, put_end}
-use Rattle.number.specs.Text.{last_digits}
 use Rattle.number.proofs.write_last.Goals as goal
 
 pub loop-i-init : goal.loop-i-init

@@ -1,11 +1,7 @@
-use mathlib.Core.Path.{◌≡◌, refl, sym, ◌∙◌}
+use mathlib.Core.Path.{◌≡◌}
 use Prim.Native.Nat.{◌≤◌}
-use native.Mathlib.Omega.{arith}
-use borrow.Author.Rules.{rules}
-use lib.ListN.{length, length-set}
+use lib.ListN.{length}
 use lib.Seq.{sets}
-use Rattle.number.proofs.Decimal.{length_last}
-use Rattle.number.proofs.Stores.{put_step, put_end}
 use Rattle.number.specs.Text.{last_digits}
 use Rattle.number.proofs.write_last.Given as goal
 

@@ -1,4 +1,3 @@
-use borrow.Author.Rules.{rules}
 use Rattle.number.proofs.Decimal.{text_last}
 use Rattle.number.proofs.write_number.Goals as goal
 

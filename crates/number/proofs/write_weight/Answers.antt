@@ -1,5 +1,4 @@
 use native.Mathlib.Omega.{arith}
-use borrow.Author.Rules.{rules}
 use Rattle.number.proofs.Decimal.{length_weight}
 use Rattle.number.proofs.Stores.{wrote_then}
 use Rattle.number.specs.Text.{weight_text}

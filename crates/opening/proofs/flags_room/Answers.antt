@@ -1,13 +1,10 @@
 use mathlib.Core.Path.{◌≡◌}
-use Prim.Native.Nat.{◌-◌, ◌≤◌}
 use native.Mathlib.Numerals.{add-one}
 use native.Mathlib.Omega.{arith}
 use borrow.Author.Rules.{rules}
-use lib.ListN.{length, get_or, replicate}
+use lib.ListN.{length}
 use Rattle.laws.specs.Lists.{filled}
 use Rattle.opening.specs.Opening.{flags_room}
-use Rattle.state.specs.State.{atomic, zero_atomic}
-use Rattle.view.specs.View.{zero_view}
 use Rattle.opening.proofs.flags_room.Goals as goal
 
 pub loop-i-init : goal.loop-i-init

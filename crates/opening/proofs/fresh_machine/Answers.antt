@@ -1,4 +1,3 @@
-use borrow.Author.Rules.{rules}
 use Rattle.opening.specs.Opening.{fresh}
 use Rattle.opening.proofs.fresh_machine.Goals as goal
 

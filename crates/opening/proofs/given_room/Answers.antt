@@ -1,9 +1,8 @@
 use mathlib.Core.Path.{◌≡◌, refl}
-use Prim.Native.Nat.{◌-◌, ◌≤◌}
 use native.Mathlib.Numerals.{add-one}
 use native.Mathlib.Omega.{arith}
 use borrow.Author.Rules.{rules}
-use lib.ListN.{length, get_or, replicate}
+use lib.ListN.{length}
 use Rattle.laws.specs.Lists.{filled}
 use Rattle.opening.specs.Opening.{given_room}
 use Rattle.opening.proofs.given_room.Goals as goal

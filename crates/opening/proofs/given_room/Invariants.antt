@@ -1,11 +1,7 @@
-use mathlib.Core.Path.{◌≡◌, refl}
+use mathlib.Core.Path.{◌≡◌}
 use Prim.Native.Nat.{◌-◌, ◌≤◌}
-use native.Mathlib.Numerals.{add-one}
-use native.Mathlib.Omega.{arith}
-use borrow.Author.Rules.{rules}
-use lib.ListN.{length, get_or, replicate}
+use lib.ListN.{get_or, replicate}
 use Rattle.laws.specs.Lists.{filled}
-use Rattle.opening.specs.Opening.{given_room}
 use Rattle.opening.proofs.given_room.Given as goal
 
 abbrev pub invariant-loop-i : goal.invariant-loop-i

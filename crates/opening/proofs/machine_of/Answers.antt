@@ -1,4 +1,3 @@
-use borrow.Author.Rules.{rules}
 use Rattle.opening.specs.Opening.{unmoved}
 use Rattle.opening.proofs.machine_of.Goals as goal
 

@@ -1,6 +1,4 @@
 use mathlib.Core.Path.{sym, ◌∙◌}
-use borrow.Author.Tests.{not-true, not-false}
-use borrow.Author.Rules.{rules}
 use Rattle.opening.specs.Opening.{opened_of}
 use Rattle.standing.proofs.Bounds.{within_shape}
 use Rattle.opening.proofs.opening.Goals as goal

@@ -1,4 +1,3 @@
-use borrow.Author.Rules.{rules}
 use Rattle.opening.specs.Opening.{refused_opening}
 use Rattle.opening.proofs.refused.Goals as goal
 

@@ -1,13 +1,9 @@
-use mathlib.Core.Path.{◌≡◌, sym}
+use mathlib.Core.Path.{◌≡◌}
 use mathlib.Core.Bool.{true}
 use Prim.Native.Nat.{◌-◌, ◌≤◌}
-use borrow.Author.Tests.{le-leb, lt-leb}
-use borrow.Author.Rules.{rules}
 use lib.Dec.{leb}
 use lib.ListN.{get_or}
-use Rattle.laws.proofs.Tests.{all_none, all_more, all_fails, all_done}
 use Rattle.laws.specs.Tests.{all_below}
-use Rattle.opening.specs.Opening.{weights_stand}
 use Rattle.step.specs.Limit.{most}
 use Rattle.opening.proofs.weights_stand.Given as goal
 

@@ -1,4 +1,3 @@
-use borrow.Author.Rules.{rules}
 use Rattle.operand.proofs.judge_number.Goals as goal
 
 pub returns-in-Within : goal.returns-in-Within

@@ -1,5 +1,4 @@
 use mathlib.Core.Path.{◌∙◌}
-use borrow.Author.Rules.{rules}
 use Rattle.operand.proofs.read_lead.Goals as goal
 
 pub returns-in-Nothing : goal.returns-in-Nothing

@@ -1,4 +1,3 @@
-use borrow.Author.Rules.{rules}
 use Rattle.operand.proofs.read_operand.Goals as goal
 
 pub returns-in-Nothing : goal.returns-in-Nothing

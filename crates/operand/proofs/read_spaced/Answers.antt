@@ -1,6 +1,5 @@
 use mathlib.Core.Path.{sym, ◌∙◌}
 use native.Mathlib.Omega.{arith}
-use borrow.Author.Rules.{rules}
 use Rattle.operand.proofs.Laws.{spaced_yes, spaced_none}
 use Rattle.digits.proofs.Digits.{inside}
 use Rattle.operand.proofs.read_spaced.Goals as goal

@@ -1,10 +1,9 @@
-use mathlib.Core.Path.{◌≡◌, refl, sym, ◌∙◌}
-use Prim.Native.Nat.{◌-◌, ◌≤◌, ◌<◌}
+use mathlib.Core.Path.{refl, sym, ◌∙◌}
+use Prim.Native.Nat.{◌<◌}
 use native.Mathlib.Omega.{arith}
 use borrow.Author.Rules.{rules}
-use lib.ListN.{length, get_or, drop}
+use lib.ListN.{get_or}
 use Rattle.operand.proofs.Laws.{positive, word_end, word_zero, word_other, word_more}
-use Rattle.operand.specs.Operand.{word}
 use Rattle.digits.proofs.Digits.{inside}
 use Rattle.operand.proofs.read_word.Goals as goal
 use Rattle.operand.proofs.read_word.Goals.{Else-byte_at-b}

@@ -1,11 +1,7 @@
-use mathlib.Core.Path.{◌≡◌, refl, sym, ◌∙◌}
-use Prim.Native.Nat.{◌-◌, ◌≤◌, ◌<◌}
-use native.Mathlib.Omega.{arith}
-use borrow.Author.Rules.{rules}
-use lib.ListN.{length, get_or, drop}
-use Rattle.operand.proofs.Laws.{positive, word_end, word_zero, word_other, word_more}
+use mathlib.Core.Path.{◌≡◌}
+use Prim.Native.Nat.{◌-◌, ◌≤◌}
+use lib.ListN.{length, drop}
 use Rattle.operand.specs.Operand.{word}
-use Rattle.digits.proofs.Digits.{inside}
 use Rattle.operand.proofs.read_word.Given as goal
 
 abbrev pub invariant-loop-j : goal.invariant-loop-j

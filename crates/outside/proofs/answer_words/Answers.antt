@@ -1,4 +1,3 @@
-use borrow.Author.Rules.{rules}
 use Rattle.outside.proofs.answer_words.Goals as goal
 
 pub returns-in-Value : goal.returns-in-Value

@@ -1,6 +1,5 @@
 use mathlib.Core.Path.{sym}
 use native.Mathlib.Omega.{arith}
-use borrow.Author.Rules.{rules}
 use Rattle.outside.proofs.Left.{left_new, left_came}
 use Rattle.outside.proofs.call_of.Goals as goal
 

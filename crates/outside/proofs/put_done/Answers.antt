@@ -1,7 +1,6 @@
 use mathlib.Core.Path.{◌≡◌, sym, ◌∙◌}
 use Prim.Native.Nat.{◌<◌}
 use native.Mathlib.Omega.{arith}
-use borrow.Author.Rules.{rules}
 use Rattle.outside.proofs.Left.{left_new, left_came}
 use Rattle.step.specs.Answer.{number_of}
 use Rattle.outside.proofs.put_done.Goals as goal

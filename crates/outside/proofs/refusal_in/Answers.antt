@@ -1,4 +1,3 @@
-use borrow.Author.Rules.{rules}
 use Rattle.outside.proofs.Left.{refusal_number, taken_number}
 use Rattle.outside.proofs.refusal_in.Goals as goal
 

@@ -1,5 +1,4 @@
-use borrow.Author.Rules.{rules}
-use borrow.Author.Tests.{lt-ltb, le-ltb, not-true, not-false}
+use borrow.Author.Tests.{lt-ltb, le-ltb}
 use Rattle.outside.specs.Call.{refused_call}
 use Rattle.outside.proofs.refused_call.Goals as goal
 

@@ -1,4 +1,3 @@
-use borrow.Author.Rules.{rules}
 use Rattle.outside.specs.Asked.{step_asked}
 use Rattle.outside.proofs.step_asked.Goals as goal
 

@@ -1,4 +1,3 @@
-use borrow.Author.Rules.{rules}
 use Rattle.outside_report.proofs.Called.{called_by}
 use Rattle.outside_report.proofs.Whole.{call_whole}
 use Rattle.outside_report.proofs.dentralupo_report.Goals as goal

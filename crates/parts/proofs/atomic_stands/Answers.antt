@@ -1,4 +1,3 @@
-use borrow.Author.Rules.{rules}
 use Rattle.parts.specs.Parts.{atomic_stands}
 use Rattle.parts.proofs.atomic_stands.Goals as goal
 

@@ -1,10 +1,8 @@
 use mathlib.Core.Path.{◌≡◌, sym}
 use mathlib.Core.Bool.{Bool, true, false}
-use Prim.Native.Nat.{ℕ, ◌-◌, ◌≤◌}
-use borrow.Author.Tests.{not-true, not-false}
+use Prim.Native.Nat.{ℕ}
 use borrow.Author.Rules.{rules}
 use Rattle.laws.proofs.Tests.{all_none, all_more, all_fails, all_done}
-use Rattle.laws.specs.Tests.{all_below}
 use Rattle.parts.specs.Parts.{atomic_stands, name_in, atomics_stand}
 use Rattle.parts.specs.declared.Family.{Family}
 use Rattle.state.specs.State.{cells_of, atomic_at}

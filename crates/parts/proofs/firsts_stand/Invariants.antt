@@ -1,12 +1,8 @@
-use mathlib.Core.Path.{◌≡◌, sym}
+use mathlib.Core.Path.{◌≡◌}
 use mathlib.Core.Bool.{true}
 use Prim.Native.Nat.{◌-◌, ◌≤◌}
-use borrow.Author.Tests.{le-leb, lt-leb}
-use borrow.Author.Rules.{rules}
 use lib.Dec.{leb}
-use Rattle.laws.proofs.Tests.{all_none, all_more, all_fails, all_done}
 use Rattle.laws.specs.Tests.{all_below}
-use Rattle.parts.specs.Parts.{firsts_stand}
 use Rattle.state.specs.State.{first_of}
 use Rattle.step.specs.Limit.{most}
 use Rattle.parts.proofs.firsts_stand.Given as goal
@@ -16,4 +12,3 @@ invariant-loop-i l = (l.i ≤ l.n) × (all_below (λ i. leb (first_of l.m i) mos
 
 abbrev pub decreases-loop-i : goal.decreases-loop-i
 decreases-loop-i l = l.n - l.i
-

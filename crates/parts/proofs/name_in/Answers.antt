@@ -1,4 +1,3 @@
-use borrow.Author.Rules.{rules}
 use Rattle.parts.proofs.name_in.Goals as goal
 
 pub returns-in-Flags : goal.returns-in-Flags

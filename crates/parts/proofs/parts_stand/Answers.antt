@@ -1,4 +1,3 @@
-use borrow.Author.Rules.{rules}
 use Rattle.parts.specs.Parts.{cells_stand, parts_stand}
 use Rattle.parts.proofs.parts_stand.Goals as goal
 

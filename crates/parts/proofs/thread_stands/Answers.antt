@@ -1,4 +1,3 @@
-use borrow.Author.Rules.{rules}
 use Rattle.parts.specs.Parts.{thread_stands}
 use Rattle.parts.proofs.thread_stands.Goals as goal
 

@@ -1,11 +1,7 @@
-use mathlib.Core.Path.{◌≡◌, sym, ◌∙◌}
-use mathlib.Core.Bool.{true}
-use Prim.Native.Nat.{◌-◌, ◌≤◌}
-use borrow.Author.Tests.{not-true, not-false}
+use mathlib.Core.Path.{sym, ◌∙◌}
 use borrow.Author.Rules.{rules}
 use Rattle.laws.proofs.Tests.{all_none, all_more, all_fails, all_done}
-use Rattle.laws.specs.Tests.{all_below}
-use Rattle.parts.specs.Parts.{thread_stands, threads_stand}
+use Rattle.parts.specs.Parts.{threads_stand}
 use Rattle.parts.proofs.threads_stand.Goals as goal
 
 pub loop-i-init : goal.loop-i-init

@@ -1,4 +1,3 @@
-use borrow.Author.Rules.{rules}
 use Rattle.places.specs.Places.{place_stands}
 use Rattle.places.proofs.place_stands.Goals as goal
 

@@ -1,5 +1,4 @@
 use mathlib.Core.Path.{refl}
-use borrow.Author.Rules.{rules}
 use Rattle.rank.specs.Rank.{free_status}
 use Rattle.rank.proofs.free_status.Goals as goal
 

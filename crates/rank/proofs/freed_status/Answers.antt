@@ -1,5 +1,4 @@
 use mathlib.Core.Path.{refl}
-use borrow.Author.Rules.{rules}
 use Rattle.rank.specs.Rank.{free_status, lapped}
 use Rattle.rank.proofs.freed_status.Goals as goal
 

@@ -1,5 +1,4 @@
 use mathlib.Core.Path.{refl}
-use borrow.Author.Rules.{rules}
 use Rattle.rank.specs.Rank.{full_status}
 use Rattle.rank.proofs.full_status.Goals as goal
 

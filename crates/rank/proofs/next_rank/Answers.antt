@@ -1,5 +1,4 @@
 use mathlib.Core.Path.{refl}
-use borrow.Author.Rules.{rules}
 use Rattle.rank.specs.Rank.{next_rank}
 use Rattle.rank.proofs.next_rank.Goals as goal
 

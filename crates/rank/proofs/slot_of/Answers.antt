@@ -1,6 +1,5 @@
 use mathlib.Core.Path.{refl}
 use native.Mathlib.Nat.{mod-zero}
-use borrow.Author.Rules.{rules}
 use Rattle.rank.specs.Rank.{slot_of}
 use Rattle.rank.proofs.slot_of.Goals as goal
 

@@ -1,4 +1,3 @@
-use borrow.Author.Rules.{rules}
 use Rattle.refusal.specs.Refusal.{refusal_by}
 use Rattle.refusal.proofs.refusal_by.Goals as goal
 

@@ -1,4 +1,3 @@
-use borrow.Author.Rules.{rules}
 use Rattle.printed.specs.Printed.{printed_text}
 use Rattle.report.proofs.Rooms.{put_inside}
 use Rattle.report.proofs.show_line.Goals as goal

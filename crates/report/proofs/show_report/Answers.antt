@@ -1,4 +1,3 @@
-use borrow.Author.Rules.{rules}
 use Rattle.reported.proofs.Short.{report_short}
 use Rattle.report.proofs.Rooms.{report_inside}
 use Rattle.report.proofs.show_report.Goals as goal

@@ -1,4 +1,3 @@
-use borrow.Author.Rules.{rules}
 use Rattle.report.proofs.show_upto.Goals as goal
 
 pub show_first-requires : goal.show_first-requires

@@ -1,4 +1,3 @@
-use borrow.Author.Rules.{rules}
 use mathlib.Core.Path.{◌∙◌}
 use Rattle.printed.specs.declared.Word.TheVariants.{Queue}
 use Rattle.reported.proofs.Page.{put_more}

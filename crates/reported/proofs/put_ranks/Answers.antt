@@ -1,11 +1,8 @@
-use Prim.Native.Nat.{◌+◌, ◌-◌, ◌≤◌}
 use borrow.Author.Rules.{rules}
-use lib.ListN.{length}
-use mathlib.Core.Path.{◌∙◌, ◌≡◌, refl}
+use mathlib.Core.Path.{◌∙◌, refl}
 use native.Mathlib.Omega.{arith}
-use Rattle.printed.specs.Printed.{page, put_lines}
+use Rattle.printed.specs.Printed.{put_lines}
 use Rattle.reported.proofs.Page.{rank_end, ranks_at, ranks_next}
-use Rattle.reported.specs.Report.{rank_lines}
 use Rattle.reported.proofs.put_ranks.Goals as goal
 
 pub loop-left-init : goal.loop-left-init

@@ -1,10 +1,7 @@
 use Prim.Native.Nat.{◌+◌, ◌-◌, ◌≤◌}
-use borrow.Author.Rules.{rules}
 use lib.ListN.{length}
-use mathlib.Core.Path.{◌∙◌, ◌≡◌, refl}
-use native.Mathlib.Omega.{arith}
+use mathlib.Core.Path.{◌≡◌}
 use Rattle.printed.specs.Printed.{page, put_lines}
-use Rattle.reported.proofs.Page.{rank_end, ranks_at, ranks_next}
 use Rattle.reported.specs.Report.{rank_lines}
 use Rattle.reported.proofs.put_ranks.Given as goal
 

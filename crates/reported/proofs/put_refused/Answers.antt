@@ -1,4 +1,3 @@
-use borrow.Author.Rules.{rules}
 use Rattle.printed.specs.declared.Word.TheVariants.{Refused}
 use Rattle.reported.proofs.Page.{put_one, refused_two}
 use Rattle.reported.specs.Report.{heading, refused_lines}

@@ -1,4 +1,3 @@
-use borrow.Author.Rules.{rules}
 use mathlib.Core.Path.{◌∙◌, sym}
 use Rattle.reported.proofs.Taken.{taken_fits}
 use Rattle.reported.proofs.Whole.{refused_report, taken_report}

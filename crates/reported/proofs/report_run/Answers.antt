@@ -1,4 +1,3 @@
-use borrow.Author.Rules.{rules}
 use Rattle.reported.proofs.Whole.{run_is, run_report}
 use Rattle.texts.specs.Schedule.{schedule_of}
 use Rattle.reported.proofs.report_run.Goals as goal

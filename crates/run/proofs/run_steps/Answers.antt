@@ -1,7 +1,7 @@
-use mathlib.Core.Path.{◌≡◌, ap, sym, ◌∙◌}
+use mathlib.Core.Path.{ap, sym}
 use mathlib.Core.List.{List}
-use lib.ListN.{length, replicate}
-use Rattle.run.proofs.Runs.{Way, Nearer, way_begins, way_goes, way_ends}
+use lib.ListN.{replicate}
+use Rattle.run.proofs.Runs.{Nearer, way_begins, way_goes, way_ends}
 use Rattle.run.specs.Run.{ran}
 use Rattle.texts.specs.Schedule.{steps_at}
 use Rattle.writes.specs.Records.{no_write}

@@ -1,4 +1,3 @@
-use borrow.Author.Rules.{rules}
 use Rattle.standing.specs.Stands.{in_shape}
 use Rattle.standing.proofs.in_shape.Goals as goal
 

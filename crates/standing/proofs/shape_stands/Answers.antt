@@ -1,4 +1,3 @@
-use borrow.Author.Rules.{rules}
 use Rattle.standing.specs.Stands.{shape_stands}
 use Rattle.standing.proofs.shape_stands.Goals as goal
 

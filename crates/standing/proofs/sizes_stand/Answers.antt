@@ -1,4 +1,3 @@
-use borrow.Author.Rules.{rules}
 use Rattle.standing.specs.Stands.{sizes_stand}
 use Rattle.standing.proofs.sizes_stand.Goals as goal
 

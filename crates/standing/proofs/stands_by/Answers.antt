@@ -1,5 +1,3 @@
-use borrow.Author.Tests.{not-true, not-false}
-use borrow.Author.Rules.{rules}
 use Rattle.laws.specs.Tests.{◌and◌}
 use Rattle.standing.proofs.stands_by.Goals as goal
 

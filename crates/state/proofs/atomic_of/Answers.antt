@@ -1,5 +1,4 @@
 use Rattle.state.specs.State.{atomic_at}
-use borrow.Author.Rules.{rules}
 use Rattle.state.proofs.atomic_of.Goals as goal
 
 pub returns-in-Head : goal.returns-in-Head

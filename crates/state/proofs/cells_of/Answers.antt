@@ -1,5 +1,4 @@
 use mathlib.Core.Path.{refl}
-use borrow.Author.Rules.{rules}
 use Rattle.state.specs.State.{cells_of}
 use Rattle.state.proofs.cells_of.Goals as goal
 

@@ -1,5 +1,4 @@
 use Rattle.state.specs.State.{place}
-use borrow.Author.Rules.{rules}
 use Rattle.state.proofs.place_of.Goals as goal
 
 pub returns : goal.returns

@@ -1,5 +1,4 @@
 use Rattle.state.specs.State.{row}
-use borrow.Author.Rules.{rules}
 use Rattle.state.proofs.row_of.Goals as goal
 
 pub returns : goal.returns

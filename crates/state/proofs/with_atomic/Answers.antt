@@ -1,5 +1,4 @@
 use Rattle.state.specs.State.{with_atomic}
-use borrow.Author.Rules.{rules}
 use Rattle.state.proofs.with_atomic.Goals as goal
 
 pub returns-in-Head : goal.returns-in-Head

@@ -1,5 +1,4 @@
 use Rattle.state.specs.State.{with_place}
-use borrow.Author.Rules.{rules}
 use Rattle.state.proofs.with_place.Goals as goal
 
 pub returns : goal.returns

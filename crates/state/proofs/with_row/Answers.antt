@@ -1,5 +1,4 @@
 use Rattle.state.specs.State.{with_row}
-use borrow.Author.Rules.{rules}
 use Rattle.state.proofs.with_row.Goals as goal
 
 pub returns : goal.returns

@@ -1,4 +1,3 @@
-use borrow.Author.Rules.{rules}
 use Rattle.turn.proofs.begin.Goals as goal
 
 pub returns : goal.returns

@@ -1,4 +1,3 @@
-use borrow.Author.Rules.{rules}
 use native.Mathlib.Omega.{arith}
 use Rattle.step.specs.Answer.{number_of}
 use Rattle.turn.proofs.Steps.{after_refused, after_taken}

@@ -1,4 +1,3 @@
-use borrow.Author.Rules.{rules}
 use mathlib.Core.Path.{◌∙◌, sym}
 use Rattle.turn.proofs.Steps.{ahead_none, ahead_read}
 use Rattle.turn.specs.Going.{ahead_of}

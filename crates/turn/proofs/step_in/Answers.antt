@@ -1,4 +1,3 @@
-use borrow.Author.Rules.{rules}
 use Rattle.turn.proofs.step_in.Goals as goal
 
 pub returns-in-HeaderLine : goal.returns-in-HeaderLine

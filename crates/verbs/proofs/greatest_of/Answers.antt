@@ -1,4 +1,3 @@
-use borrow.Author.Rules.{rules}
 use Rattle.verbs.proofs.greatest_of.Goals as goal
 
 pub returns-in-Set : goal.returns-in-Set

@@ -1,4 +1,3 @@
-use borrow.Author.Rules.{rules}
 use Rattle.verbs.proofs.is_named.Goals as goal
 
 pub returns-in-Get : goal.returns-in-Get

@@ -1,11 +1,6 @@
-use mathlib.Core.Path.{◌≡◌, refl, ap, ◌∙◌}
+use mathlib.Core.Path.{◌≡◌}
 use Prim.Native.Nat.{◌-◌, ◌≤◌}
-use native.Mathlib.Numerals.{add-one}
-use native.Mathlib.Omega.{arith}
-use borrow.Author.Rules.{rules}
-use lib.ListN.{length}
-use Rattle.view.specs.View.{view_of, join_to, joined}
-use Rattle.view.proofs.Joined.{join_step, join_past}
+use Rattle.view.specs.View.{join_to}
 use Rattle.view.proofs.join.Given as goal
 
 abbrev pub invariant-loop-i : goal.invariant-loop-i

@@ -1,10 +1,9 @@
 use mathlib.Core.Path.{◌≡◌, sym}
 use mathlib.Core.Bool.{Bool, true, false}
-use Prim.Native.Nat.{ℕ, ◌≤◌, ◌-◌}
+use Prim.Native.Nat.{ℕ}
 use borrow.Author.Rules.{rules}
 use borrow.Author.Tests.{le-leb, lt-leb}
 use lib.Dec.{leb}
-use Rattle.laws.specs.Tests.{all_below}
 use Rattle.laws.proofs.Tests.{all_none, all_more, all_fails, all_done}
 use Rattle.step.specs.Limit.{most}
 use Rattle.view.specs.View.{stamp_of, view_stands}

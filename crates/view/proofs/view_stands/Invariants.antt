@@ -1,13 +1,10 @@
-use mathlib.Core.Path.{◌≡◌, sym}
-use mathlib.Core.Bool.{Bool, true, false}
+use mathlib.Core.Path.{◌≡◌}
+use mathlib.Core.Bool.{Bool, true}
 use Prim.Native.Nat.{ℕ, ◌≤◌, ◌-◌}
-use borrow.Author.Rules.{rules}
-use borrow.Author.Tests.{le-leb, lt-leb}
 use lib.Dec.{leb}
 use Rattle.laws.specs.Tests.{all_below}
-use Rattle.laws.proofs.Tests.{all_none, all_more, all_fails, all_done}
 use Rattle.step.specs.Limit.{most}
-use Rattle.view.specs.View.{stamp_of, view_stands}
+use Rattle.view.specs.View.{stamp_of}
 use Rattle.view.specs.declared.View.{View}
 use Rattle.view.proofs.view_stands.Given as goal
 

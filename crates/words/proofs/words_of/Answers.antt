@@ -1,5 +1,4 @@
 use native.Mathlib.Omega.{arith}
-use borrow.Author.Rules.{rules}
 use Rattle.number.proofs.Stores.{wrote_then}
 use Rattle.words.proofs.Words.{all_written}
 use Rattle.image.specs.Image.{words_of}

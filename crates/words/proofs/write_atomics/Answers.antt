@@ -1,12 +1,8 @@
 use mathlib.Core.Path.{◌≡◌, refl, ap}
-use Prim.Native.Nat.{◌+◌, ◌*◌, ◌-◌, ◌≤◌}
 use native.Mathlib.Omega.{arith}
 use borrow.Author.Rules.{rules}
-use lib.ListN.{length}
-use Rattle.number.specs.Buffer.{Wrote}
 use Rattle.words.proofs.Words.{turn, no_turn}
-use Rattle.image.specs.Image.{in_turn, atomic_words}
-use Rattle.parts.specs.Parts.{name_in}
+use Rattle.image.specs.Image.{atomic_words}
 use Rattle.state.specs.State.{atomic_at}
 use Rattle.state.specs.declared.Name.{Name}
 use Rattle.words.proofs.write_atomics.Goals as goal

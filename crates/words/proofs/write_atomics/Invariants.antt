@@ -1,14 +1,10 @@
-use mathlib.Core.Path.{◌≡◌, refl, ap}
+use mathlib.Core.Path.{◌≡◌}
 use Prim.Native.Nat.{◌+◌, ◌*◌, ◌-◌, ◌≤◌}
-use native.Mathlib.Omega.{arith}
-use borrow.Author.Rules.{rules}
 use lib.ListN.{length}
 use Rattle.number.specs.Buffer.{Wrote}
-use Rattle.words.proofs.Words.{turn, no_turn}
 use Rattle.image.specs.Image.{in_turn, atomic_words}
 use Rattle.parts.specs.Parts.{name_in}
 use Rattle.state.specs.State.{atomic_at}
-use Rattle.state.specs.declared.Name.{Name}
 use Rattle.words.proofs.write_atomics.Given as goal
 
 abbrev pub invariant-loop-i : goal.invariant-loop-i

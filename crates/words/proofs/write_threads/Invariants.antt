@@ -1,12 +1,8 @@
-use mathlib.Core.Path.{◌≡◌, refl}
-use mathlib.Core.List.{◌++◌}
+use mathlib.Core.Path.{◌≡◌}
 use Prim.Native.Nat.{◌+◌, ◌*◌, ◌-◌, ◌≤◌}
-use native.Mathlib.Omega.{arith}
-use borrow.Author.Rules.{rules}
 use lib.ListN.{length}
 use Rattle.image.specs.Image.{in_turn, thread_words}
 use Rattle.number.specs.Buffer.{Wrote}
-use Rattle.words.proofs.Words.{turn, no_turn}
 use Rattle.words.proofs.write_threads.Given as goal
 
 abbrev pub invariant-loop-i : goal.invariant-loop-i

@@ -1,10 +1,9 @@
 use mathlib.Core.Path.{◌≡◌, refl, ◌∙◌}
-use Prim.Native.Nat.{◌-◌, ◌≤◌}
 use native.Mathlib.Numerals.{add-one}
 use native.Mathlib.Omega.{arith}
 use borrow.Author.Rules.{rules}
-use lib.ListN.{length, take}
-use lib.Seq.{sets, take-length}
+use lib.ListN.{length}
+use lib.Seq.{take-length}
 use Rattle.words.proofs.Words.{copy_step}
 use Rattle.words.proofs.write_words.Goals as goal
 

@@ -1,4 +1,3 @@
-use borrow.Author.Rules.{rules}
 use Rattle.writes.proofs.earlier_of.Goals as goal
 
 pub returns-in-Present : goal.returns-in-Present

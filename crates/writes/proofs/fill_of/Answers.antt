@@ -1,4 +1,3 @@
-use borrow.Author.Rules.{rules}
 use Rattle.writes.specs.Records.{fill_of}
 use Rattle.writes.proofs.fill_of.Goals as goal
 

@@ -1,4 +1,3 @@
-use borrow.Author.Rules.{rules}
 use Rattle.writes.specs.Searched.{looked_at}
 use Rattle.writes.proofs.look_whole.Goals as goal
 

@@ -1,4 +1,3 @@
-use borrow.Author.Rules.{rules}
 use Rattle.writes.specs.History.{newer}
 use Rattle.writes.proofs.newer_of.Goals as goal
 

@@ -1,4 +1,3 @@
-use borrow.Author.Rules.{rules}
 use Rattle.writes.proofs.present_if.Goals as goal
 
 pub returns-then-test : goal.returns-then-test

@@ -1,4 +1,3 @@
-use borrow.Author.Rules.{rules}
 use Rattle.writes.specs.History.{record_stands}
 use Rattle.writes.proofs.record_stands.Goals as goal
 

@@ -1,10 +1,10 @@
-use mathlib.Core.Path.{◌≡◌, refl}
-use Prim.Native.Nat.{◌+◌, ◌≤◌, ◌<◌}
+use mathlib.Core.Path.{refl}
+use Prim.Native.Nat.{◌<◌}
 use native.Mathlib.Numerals.{add-one}
 use native.Mathlib.Omega.{arith}
 use lib.ListN.{length}
 use Rattle.writes.specs.Searched.{searched}
-use Rattle.writes.proofs.Searched.{searched_more, take_less}
+use Rattle.writes.proofs.Searched.{searched_more}
 use Rattle.writes.proofs.search.Goals as goal
 
 pub loop-i-init : goal.loop-i-init

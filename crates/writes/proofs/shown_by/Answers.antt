@@ -1,4 +1,3 @@
-use borrow.Author.Rules.{rules}
 use Rattle.writes.specs.History.{shown_by}
 use Rattle.writes.proofs.shown_by.Goals as goal
 

@@ -1,4 +1,3 @@
-use borrow.Author.Rules.{rules}
 use Rattle.writes.specs.Searched.{sought_of}
 use Rattle.writes.proofs.sought.Goals as goal
 

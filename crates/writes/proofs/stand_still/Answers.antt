@@ -1,4 +1,3 @@
-use borrow.Author.Rules.{rules}
 use Rattle.writes.proofs.stand_still.Goals as goal
 
 pub returns-then-judged : goal.returns-then-judged

@@ -1,4 +1,3 @@
-use borrow.Author.Rules.{rules}
 use Rattle.rules.specs.Calls.{acted}
 use Rattle.decision.proofs.calls.act.Goals as goal
 

@@ -1,4 +1,3 @@
-use borrow.Author.Rules.{rules}
 use Rattle.rules.specs.Calls.{closes}
 use Rattle.decision.proofs.calls.close.Goals as goal
 

@@ -1,4 +1,3 @@
-use borrow.Author.Rules.{rules}
 use Rattle.decision.proofs.calls.end.Goals as goal
 
 pub returns : goal.returns

@@ -1,4 +1,3 @@
-use borrow.Author.Rules.{rules}
 use Rattle.rules.specs.Calls.{goes_on}
 use Rattle.decision.proofs.calls.go_on.Goals as goal
 

@@ -1,4 +1,3 @@
-use borrow.Author.Rules.{rules}
 use Rattle.decision.proofs.calls.has_status.Goals as goal
 
 pub returns : goal.returns

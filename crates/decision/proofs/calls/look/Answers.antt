@@ -1,4 +1,3 @@
-use borrow.Author.Rules.{rules}
 use Rattle.rules.specs.Calls.{looks}
 use Rattle.decision.proofs.calls.look.Goals as goal
 

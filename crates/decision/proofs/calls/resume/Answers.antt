@@ -1,8 +1,6 @@
 use native.Mathlib.Omega.{arith}
-use borrow.Author.Rules.{rules}
 use Rattle.rules.specs.Calls.{resumed}
 use Rattle.rank.specs.Rank.{free_status, full_status, lapped}
-use Rattle.state.specs.State.{at}
 use Rattle.decision.proofs.calls.resume.Goals as goal
 
 pub swap-requires : goal.swap-requires
