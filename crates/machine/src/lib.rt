@@ -32,7 +32,7 @@ pub fn step_by(m: Machine, ws: &mut [Write], asked: Asked) -> Done
 }
 
 // What the queue holds at a rank, for ranks from tail to head less one: the weight at the greatest stamp of its slot if its status is
-// 2 times rank plus 1, else `-`; 14 for a state that cannot stand. The list is held by value, so that callers need no walk by hand.
+// 2 times rank plus 1, else `-`; 14 for a state that cannot stand. The list is held by value.
 pub fn content(m: Machine, ws: [Write; 1024], rank: u32) -> Answer
     ensures { result ≡ content_of m ws rank }
 {

@@ -13,7 +13,7 @@ use Rattle.published.specs.Follows.{store_of, stamps_of, after, Performed, Steps
 use Rattle.published.specs.Memory.{Has}
 use Rattle.rules.proofs.Alike.{first_same, room_unjudged}
 use Rattle.rules.proofs.Refused.{refused_keeps}
-use Rattle.rules.proofs.Room.{lacks_none}
+use Rattle.rules.proofs.RoomSteps.{lacks_none}
 use Rattle.rules.specs.Kept.{number_given, Lacks, SameRoom, Alike}
 use Rattle.rules.specs.Step.{Outcome, step_of}
 use Rattle.state.specs.State.{cells_of, row, place, atomic_at, first_of}

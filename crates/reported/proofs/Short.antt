@@ -8,7 +8,7 @@ use mathlib.Core.Path.{◌∙◌, ◌≡◌, ap, refl}
 use native.Mathlib.Omega.{arith}
 use Rattle.fault.specs.Refusal.{number_of, place_of}
 use Rattle.fault.specs.declared.Refusal.{Refusal}
-use Rattle.fault.specs.declared.Refusal.TheVariants as IsRefused_as
+use Rattle.fault.specs.declared.Refusal.TheVariants as refused_as
 use Rattle.rules.specs.Step.{content_of}
 use Rattle.number.proofs.Decimal.{length_pow}
 use Rattle.number.specs.Buffer.{Wrote}
@@ -98,10 +98,10 @@ run_short r n l f q h =
     )
 
 number_least : (r : Refusal) → number_of r < 10
-number_least IsRefused_as.TooLong = omega arith
-number_least (IsRefused_as.BadForm line stop) = omega arith
-number_least (IsRefused_as.BadRange line number) = omega arith
-number_least (IsRefused_as.Extra at) = omega arith
+number_least refused_as.TooLong = omega arith
+number_least (refused_as.BadForm line stop) = omega arith
+number_least (refused_as.BadRange line number) = omega arith
+number_least (refused_as.Extra at) = omega arith
 
 text_short : (r : Refusal) → place_of r ≤ 65536 → length (printed_text (text_line r)) ≤ 64
 unfolding field_text

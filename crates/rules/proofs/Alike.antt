@@ -16,7 +16,7 @@ use Rattle.refusal.proofs.Passed.{among_some}
 use Rattle.refusal.specs.Refusal.{refuse, refusal_by}
 use Rattle.rules.proofs.Parts.{Known}
 use Rattle.rules.proofs.Refused.{numbered}
-use Rattle.rules.proofs.Room.{lacks_none}
+use Rattle.rules.proofs.RoomSteps.{lacks_none}
 use Rattle.rules.proofs.Unstuck.{Ranged, ranged}
 use Rattle.rules.specs.Access.{access_of, cell_asked, found_by}
 use Rattle.rules.specs.Kept.{Alike, RoomUnjudged}

@@ -16,48 +16,24 @@ use Rattle.rules.proofs.Ranks.{slot_in}
 use Rattle.rules.proofs.Refused.{numbered}
 use Rattle.rules.proofs.Remembered.{picture, knew_at, one_stamp}
 use Rattle.rules.proofs.Ring.{Stage, aside, saw_free, filling, filled, saw_full, emptying, emptied, empties}
-use Rattle.rules.proofs.Ringed.{stage, stages}
+use Rattle.rules.proofs.Ringed.{stages}
 use Rattle.rules.proofs.Sound.{Sound}
 use Rattle.rules.proofs.Standing.{standing}
 use Rattle.rules.proofs.Views.{stamp}
 use Rattle.rules.specs.Log.{Point, Call, Seen, taking, seen}
 use Rattle.rules.specs.Queue.{CoversNoted, go_at}
-use Rattle.rank.specs.Rank.{slot_of}
+use Rattle.rules.proofs.Waiting.{past, waits, spot, cell}
 use Rattle.refusal.proofs.Passed.{passed, unrefused}
 use Rattle.standing.proofs.Bounds.{Bounds, bounds}
 use Rattle.state.specs.State.{cells_of, row, place, first_of}
 use Rattle.state.specs.declared.Machine.{Machine}
 use Rattle.state.specs.declared.Place.{Place}
-use Rattle.state.specs.declared.Place.TheVariants.{Idle, PutStatus, PutSwap, PutWrite, PutPublish, TakeStatus, TakeSwap, TakeRead, TakeFree}
+use Rattle.state.specs.declared.Place.TheVariants.{TakeRead}
 use Rattle.view.specs.View.{stamp_of}
 use Rattle.view.specs.declared.View.{View}
 use Rattle.writes.specs.History.{found}
 use Rattle.writes.specs.declared.Access.{Access}
 use Rattle.writes.specs.declared.Access.TheVariants.{Reads}
-
--- a take that has won is past its swap
-past : (k r : ℕ) (q : Place) → Marked (taking k r) q → 3 ≤ k → empties (stage q) r
-past k r Idle e l = absurd (let z : ◌≡◌ {A = ℕ} 0 1 = cc in omega arith)
-past k r (PutStatus h w) e l = absurd (let z : ◌≡◌ {A = ℕ} 0 1 = cc in omega arith)
-past k r (PutSwap h w) e l = absurd (let z : ◌≡◌ {A = ℕ} 0 1 = cc in omega arith)
-past k r (PutWrite h w) e l = absurd (let z : ◌≡◌ {A = ℕ} 0 1 = cc in omega arith)
-past k r (PutPublish h) e l = absurd (let d = e.1 in let z : ◌≡◌ {A = ℕ} 0 1 = cc in omega arith)
-past k r (TakeStatus t) e l = absurd (omega (arith, let d : k ≡ 1 = cc in d))
-past k r (TakeSwap t) e l = absurd (omega (arith, let d : k ≡ 2 = cc in d))
-past k r (TakeRead t) e l = cc
-past k r (TakeFree t w) e l = cc
-
--- one that waits to read is at its read
-waits : (r : ℕ) (q : Place) → Marked (taking 3 r) q → q ≡ TakeRead r
-waits r Idle e = cc
-waits r (PutStatus h w) e = cc
-waits r (PutSwap h w) e = cc
-waits r (PutWrite h w) e = cc
-waits r (PutPublish h) e = let d = e.1 in cc
-waits r (TakeStatus t) e = cc
-waits r (TakeSwap t) e = cc
-waits r (TakeRead t) e = cc
-waits r (TakeFree t w) e = cc
 
 -- what it knows then
 brings : (c n : ℕ) (p : Picture) (v : View) (g : Stage) (r : ℕ) → empties g r → Knows c n p v g → CoversNoted (n + c) (p.published r) v
@@ -89,16 +65,9 @@ module _ (p : Point) (S : Sound p) where
     B : Bounds m.shape
     B = bounds m p.writes S.stand
 
-    -- the slot of rank r in a view, and that thread's own stamp of it
-    abbrev spot : ℕ
-    spot = m.shape.plain + slot_of m.shape.slots r
-
-    cell : slot_cell m.shape r - 1 ≡ spot
-    unfolding slot_cell
-    cell = omega arith
-
+    -- that thread's own stamp of the slot of rank r
     abbrev mine : ℕ
-    mine = stamp_of (row m (i - 1)) spot
+    mine = stamp_of (row m (i - 1)) (spot m r)
 
     module _ (k : n.calls (i - 1) ≡ taking 3 r) where
       here : place m (i - 1) ≡ TakeRead r
@@ -115,7 +84,7 @@ module _ (p : Point) (S : Sound p) where
         let low = ltb-false _ _ (subst (λ (y : Access). outdated y (row m (i - 1)) ≡ false) (reads k a) q.1.0) in
         let fits = subst (λ (y : Access). amiss y (found_by m p.writes y) ≡ false) (reads k a) q.1.1 in
         let new = (one_stamp m p.writes n (i - 1) S.whole B S.ring S.memory r a _ (here k) low (shown _ fits)).0 in
-        omega (arith, rw cell at low, new, (knew_at m p.writes n (i - 1) S.whole B S.ring S.memory (TakeRead r) (here k)).0.0)
+        omega (arith, rw (cell m r B) at low, new, (knew_at m p.writes n (i - 1) S.whole B S.ring S.memory (TakeRead r) (here k)).0.0)
 
     -- and the thread's own is
     pub own : n.calls (i - 1) ≡ taking 3 r → 0 < i → m.steps < 4096 → number_given m p.writes (go_at i mine) ≡ 0
@@ -129,11 +98,11 @@ module _ (p : Point) (S : Sound p) where
           thread = (l, omega (arith, known (dec_lt (i - 1) m.shape.threads)));
           due = rw (here k);
           names = refl;
-          range = stamp (cells_of m) (row m (i - 1)) ((standing m p.writes S.stand).rows (i - 1) (known (dec_lt (i - 1) m.shape.threads))) spot
+          range = stamp (cells_of m) (row m (i - 1)) ((standing m p.writes S.stand).rows (i - 1) (known (dec_lt (i - 1) m.shape.threads))) (spot m r)
               (omega (arith, slot_in m.shape.slots r B.some_slot));
           room = rw (reads k mine);
         })
-        (rw (reads k mine, cell) (le-ltb mine mine (omega arith)), rw (reads k mine) (ap not there))
+        (rw (reads k mine, cell m r B) (le-ltb mine mine (omega arith)), rw (reads k mine) (ap not there))
       where
         known : Dec (i - 1 < m.shape.threads) → i - 1 < m.shape.threads
         known (yes d) = d
@@ -141,5 +110,5 @@ module _ (p : Point) (S : Sound p) where
 
         there : present (found (first_of m (slot_cell m.shape r - 1)) p.writes (slot_cell m.shape r) mine m.held) ≡ true
         there =
-            let d : spot + 1 ≡ slot_cell m.shape r = omega arith in
-            rw d at (S.recall.rows (i - 1) spot (omega (arith, slot_in m.shape.slots r B.some_slot)))
+            let d : spot m r + 1 ≡ slot_cell m.shape r = omega arith in
+            rw d at (S.recall.rows (i - 1) (spot m r) (omega (arith, slot_in m.shape.slots r B.some_slot)))

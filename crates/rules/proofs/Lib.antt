@@ -9,7 +9,9 @@ pub mod Memory
 pub mod Calls
 pub mod Kept
 pub mod Each
+pub mod WholeSteps
 pub mod Whole
+pub mod RoomSteps
 pub mod Room
 pub mod Updated
 pub mod Ranks
@@ -28,9 +30,11 @@ pub mod Remembered
 pub mod Listed
 pub mod Owed
 pub mod Recalled
+pub mod Recalls
 pub mod Unstuck
 pub mod Sound
 pub mod Shown
+pub mod Waiting
 pub mod Awaited
 pub mod Begun
 pub mod Holds

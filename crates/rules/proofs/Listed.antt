@@ -109,7 +109,7 @@ module _ (c h t : ℕ) (at : ℕ → Place) (calls : ℕ → Call) (os : List Op
   taken l = go L.line.inside refl
     where
       go : (ws : List ℕ) → L.line.inside ≡ ws → Listed c h (next_rank t) at' calls' (comes_out ∷ os)
-      go [] e = absurd (omega (arith, reaches L, ap length e))
+      go [] e = absurd (omega (arith, L.handed, L.put, length-append L.line.handed L.line.inside, ap length L.all, ap length e))
       go (w ∷ ws) e =
           record {
             line = record { inside = ws; handed = L.line.handed ++ (w ∷ []) };

@@ -12,24 +12,17 @@ use Rattle.accesses.specs.Accesses.{present}
 use Rattle.atomic.specs.Atomic.{met, told}
 use Rattle.laws.proofs.Lists.{set_here, set_else}
 use Rattle.laws.specs.Tests.{◌and◌}
-use Rattle.rules.specs.Access.{slot_cell}
-use Rattle.rules.specs.Calls.{status_name}
 use Rattle.rules.proofs.Calm.{same_name}
 use Rattle.rules.proofs.Events.{Goes, Reading, Writing, Looking, Storing}
 use Rattle.rules.proofs.Joins.{met_here, told_here}
-use Rattle.rules.proofs.Moves.{Moves}
-use Rattle.rules.proofs.Ranks.{slot_in}
 use Rattle.rules.proofs.Updated.{at_each}
-use Rattle.rank.specs.Rank.{next_rank, free_status, full_status, lapped}
 use Rattle.standing.proofs.Bounds.{Bounds}
 use Rattle.state.proofs.Changed.{stamp_here, stamp_else}
 use Rattle.state.specs.State.{cells_of, row, atomic_at, first_of, Whole}
 use Rattle.state.specs.declared.Atomic.{Atomic}
 use Rattle.state.specs.declared.Machine.{Machine}
 use Rattle.state.specs.declared.Name.{Name}
-use Rattle.state.specs.declared.Name.TheVariants.{Head, Tail, Flag}
 use Rattle.state.specs.declared.Place.{Place}
-use Rattle.state.specs.declared.Place.TheVariants.{Idle, PutStatus, PutSwap, PutWrite, PutPublish, TakeStatus, TakeSwap, TakeRead, TakeFree}
 use Rattle.view.specs.View.{stamp_of, with_stamp}
 use Rattle.view.specs.declared.View.{View}
 use Rattle.writes.proofs.History.{found_more}
@@ -116,20 +109,20 @@ module _ (m : Machine) (ws : List Write) (i : ℕ) (W : Whole m) (B : Bounds m.s
   alike : (o : Machine) → ((a : Name) → atomic_at o a ≡ atomic_at m a) → (a : Name) → ShowsAll (cells_of m) (first_of m) ws m.held (atomic_at o a).view
   alike o h a = subst (λ (x : Atomic). ShowsAll (cells_of m) (first_of m) ws m.held x.view) (sym (h a)) (K.cells a)
 
-  reads : (b t v : ℕ) (q : Place) (o : Machine) → Reading m ws i b t v q o → Now o ws
+  pub reads : (b t v : ℕ) (q : Place) (o : Machine) → Reading m ws i b t v q o → Now o ws
   reads b t v q o x = same_list o x.held (went q (row m i) o x.goes (K.rows i)) (alike o x.cells)
 
-  looks : (a : Name) (q : Place) (o : Machine) → Looking m i a q o → Now o ws
+  pub looks : (a : Name) (q : Place) (o : Machine) → Looking m i a q o → Now o ws
   looks a q o x = same_list o x.held (went q (met m i a) o x.goes (met_shows a)) (alike o x.cells)
 
-  stores : (a : Name) (v : ℕ) (q : Place) (o : Machine) → Storing m i a v q o → Now o ws
+  pub stores : (a : Name) (v : ℕ) (q : Place) (o : Machine) → Storing m i a v q o → Now o ws
   stores a v q o x = same_list o x.held (went q (met m i a) o x.goes (met_shows a)) (λ b. go b (same_name b a))
     where
       go : (b : Name) → Dec (b ≡ a) → ShowsAll (cells_of m) (first_of m) ws m.held (atomic_at o b).view
       go b (yes e) = subst (λ (y : Atomic). ShowsAll (cells_of m) (first_of m) ws m.held y.view) (sym (ap (atomic_at o) e ∙ x.here)) (told_shows a)
       go b (no n) = subst (λ (y : Atomic). ShowsAll (cells_of m) (first_of m) ws m.held y.view) (sym (x.else b n)) (K.cells b)
 
-  writes : (b t v : ℕ) (q : Place) (o : Machine) (us : List Write) → (1 ≤ b) × (b ≤ cells_of m) → Writing m ws i b t v q o us → Now o us
+  pub writes : (b t v : ℕ) (q : Place) (o : Machine) (us : List Write) → (1 ≤ b) × (b ≤ cells_of m) → Writing m ws i b t v q o us → Now o us
   unfolding cells_of
   writes b t v q o us r x = subst (λ (xs : List Write). Now o xs) (sym x.filed)
       (record {
@@ -189,29 +182,3 @@ module _ (m : Machine) (ws : List Write) (i : ℕ) (W : Whole m) (B : Bounds m.s
       above : (y : ℕ) → y < suc m.held → Dec (y ≡ m.held) → 0 < (nth new y).stamp
       above y p (yes e) = rw (ap (nth new) e ∙ last) (omega (arith, x.above))
       above y p (no e) = rw (before y e) (K.positive y (omega arith))
-
-  pub recall_moves : Moves m ws i (λ v a o us. Recalled (cells_of m) (first_of m) o us)
-  unfolding cells_of slot_cell
-  recall_moves =
-      record {
-        gets = λ b t v o e _ x. reads b t v Idle o x;
-        sets = λ b t v o us e r x. writes b t v Idle o us (r.0, omega (arith, r.1)) x;
-        loads = λ b f o e x. looks (Flag f) Idle o x;
-        stores = λ b f v o e x. stores (Flag f) v Idle o x;
-        swap_wins = λ b f u v o e x. stores (Flag f) v Idle o x;
-        swap_loses = λ b f u v o e x. looks (Flag f) Idle o x;
-        put_begins = λ w o e x. looks Head (PutStatus m.head.value w) o x;
-        put_sees = λ h w o e d x. looks (status_name m h) (PutSwap h w) o x;
-        put_stops = λ h w o e x. looks (status_name m h) Idle o x;
-        put_wins = λ h w o e d x. stores Head (next_rank h) (PutWrite h w) o x;
-        put_loses = λ h w o e x. looks Head Idle o x;
-        put_writes = λ h w t o us e x. writes _ t w (PutPublish h) o us (omega (arith, slot_in m.shape.slots h B.some_slot)) x;
-        put_ends = λ h o e x. stores (status_name m h) (full_status h) Idle o x;
-        take_begins = λ o e x. looks Tail (TakeStatus m.tail.value) o x;
-        take_sees = λ t o e d x. looks (status_name m t) (TakeSwap t) o x;
-        take_stops = λ t o e x. looks (status_name m t) Idle o x;
-        take_wins = λ t o e d x. stores Tail (next_rank t) (TakeRead t) o x;
-        take_loses = λ t o e x. looks Tail Idle o x;
-        take_reads = λ t s w o e x. reads _ s w (TakeFree t w) o x;
-        take_ends = λ t w o e x. stores (status_name m t) (free_status (lapped m.shape.slots t)) Idle o x;
-      }

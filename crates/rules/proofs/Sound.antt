@@ -12,7 +12,8 @@ use Rattle.rules.specs.Step.{step_of}
 use Rattle.rules.proofs.Moves.{by_moves}
 use Rattle.rules.proofs.Listed.{ListedAt}
 use Rattle.rules.proofs.Owed.{Owed, list_moves}
-use Rattle.rules.proofs.Recalled.{Recalled, recall_moves}
+use Rattle.rules.proofs.Recalled.{Recalled}
+use Rattle.rules.proofs.Recalls.{recall_moves}
 use Rattle.rules.proofs.Remembered.{Remembered, memory_moves}
 use Rattle.rules.proofs.Ringed.{Ringed, ring_moves}
 use Rattle.rules.specs.Log.{Entry, Point, Seen, thread_of, entry_of, next, through, under, heard, seen}

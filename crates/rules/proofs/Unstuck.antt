@@ -63,19 +63,14 @@ module _ (m : Machine) (B : Bounds m.shape) where
 
   module _ (ws : List Write) (K : Recalled (cells_of m) (first_of m) m ws) (s : Step) (c : ℕ)
       (e : asked m s ≡ Reads c (stamp_of (row m (s.thread - 1)) (c - 1))) where
-    -- what the read finds
-    there : named m.shape s.verb ≡ true → present (found_by m ws (asked m s)) ≡ true
-    unfolding found_by
-    there n =
-        let r = subst (Ranged (cells_of m)) e (ranged s.verb (place m (s.thread - 1)) n) in
-        let d : c - 1 + 1 ≡ c = omega arith in
-        rw e (rw d at (K.rows (s.thread - 1) (c - 1) (omega arith)))
-
     pub never : (r : ℕ) → 0 < r → others r (early (stands m ws) m (length ws) s (asked m s) (found_by m ws (asked m s))) ≡ true
         → number_of (step_of m ws s).done.answer ≢ r
-    unfolding refusal_of
+    unfolding refusal_of found_by
     never r p n h =
         let l = past_early (stands m ws) m (length ws) s (asked m s) (found_by m ws (asked m s)) r n (sym (numbered m ws s) ∙ h) in
         let v = stamp_of (row m (s.thread - 1)) (c - 1) in
-        let z : 0 ≡ r = rw (e, le-ltb v v (omega arith), rw e at (there l.0.names)) at l.1 in
+        let g = subst (Ranged (cells_of m)) e (ranged s.verb (place m (s.thread - 1)) l.0.names) in
+        let d : c - 1 + 1 ≡ c = omega arith in
+        let there : present (found_by m ws (asked m s)) ≡ true = rw e (rw d at (K.rows (s.thread - 1) (c - 1) (omega arith))) in
+        let z : 0 ≡ r = rw (e, le-ltb v v (omega arith), rw e at there) at l.1 in
         omega arith
