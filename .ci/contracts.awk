@@ -127,9 +127,12 @@ function plain(text) {
     return text
 }
 
+# One function is lent a closure. It asks that it may be called, and says no more of what it gives than the closure's contract fixes.
 function row(  said, by) {
+    closure = gsub(/: Fn\([^()]*\) -> /, ": Fn ", signature) && name == "laws::filled"
     said = equations()
-    by = lemma(due())
+    by = due()
+    by = closure ? "what the closure's contract fixes" : lemma(by)
     printf "| `%s` | %s | %s |\n", name, said == "" ? "NONE" : "`" said "`", by
 }
 
@@ -137,7 +140,8 @@ function row(  said, by) {
 function equations(  said, label, i) {
     said = ""
     for (i = 1; i <= clauses; i++) {
-        if (heads[i] ~ /^requires/) wrong(name, "it has a `requires`")
+        if (heads[i] == "requires" && closure && terms[i] ~ /^\(i : _\) → i < [a-z]+ → F\.pre f i$/) said = said (said == "" ? "" : "; ") terms[i]
+        else if (heads[i] ~ /^requires/) wrong(name, "it has a `requires`")
         else if (heads[i] ~ /^ghost/) wrong(name, "it has a `ghost` clause")
         else if (heads[i] !~ /^ensures( [a-z_]+)?$/) wrong(name, "it has an `ensures` that is not of the form `ensures { .. }` or `ensures name { .. }`")
         else {
@@ -218,9 +222,17 @@ function own_contract(said,  word, path, due_there) {
     return alias != ""
 }
 
-# What a lemma of a known shape, over the contract `alias`, concludes; "" of any other.
-function conclusion(said,  given) {
+# What a lemma of a known shape, over the contract `alias`, concludes; "" of any other. A generic function has a contract for each type.
+function conclusion(said,  given, over) {
     if (said == "OneResult " alias ".Post") return "x ≡ y"
+    if (match(said, /^(\([a-z] : _\) )+→ OneResult \(/)) {
+        given = substr(said, 1, RLENGTH)
+        over = given
+        sub(/ → OneResult \($/, "", over)
+        gsub(/ : _\)/, "", over)
+        gsub(/\(/, "", over)
+        return said == given alias ".Post " over ")" ? "x ≡ y" : ""
+    }
     given = "(κs : _) (a : _) (x y : _) (e f : _) → " alias ".Post κs a x e → " alias ".Post κs a y f → "
     return begins(said, given) ? substr(said, length(given) + 1) : ""
 }

@@ -1,12 +1,10 @@
 -- Tests of a plain access. Assumes nothing.
-use Rattle.std.specs.Prelude.{Bool, true, false, not, ℕ, ◌-◌, leb, ltb}
+use Rattle.std.specs.Prelude.{Bool, false, not, ℕ, ◌-◌, leb, ltb, Option, is_some}
 use Rattle.laws.specs.Tests.{◌or◌}
 use Rattle.view.specs.View.{stamp_of}
 use Rattle.view.specs.declared.View.{View}
 use Rattle.writes.specs.declared.Access.{Access}
 use Rattle.writes.specs.declared.Access.TheVariants.{NoAccess, Reads, Writes}
-use Rattle.writes.specs.declared.Found.{Found}
-use Rattle.writes.specs.declared.Found.TheVariants.{Missing, Present}
 
 -- a plain write with no record free: held writes equal the records lent, or 1,024
 abbrev pub full : Access → ℕ → ℕ → Bool
@@ -20,12 +18,8 @@ outdated NoAccess v = false
 outdated (Reads c t) v = ltb t (stamp_of v (c - 1))
 outdated (Writes c t x) v = leb t (stamp_of v (c - 1))
 
-abbrev pub present : Found → Bool
-present Missing = false
-present (Present v) = true
-
 -- read: no write with that stamp; write: that stamp in the history
-abbrev pub amiss : Access → Found → Bool
+abbrev pub amiss : Access → Option ℕ → Bool
 amiss NoAccess f = false
-amiss (Reads c t) f = not (present f)
-amiss (Writes c t v) f = present f
+amiss (Reads c t) f = not (is_some f)
+amiss (Writes c t v) f = is_some f

@@ -2,29 +2,24 @@
 #![tactic(auto)]
 
 ghost use Rattle.std.specs.Prelude.{◌≡◌};
-ghost use Rattle.accesses.specs.Accesses.{full, outdated, present, amiss};
+ghost use Rattle.accesses.specs.Accesses.{full, outdated, amiss};
 
 use state::index;
 use view::View;
-use writes::{Access, Found};
+use writes::Access;
 
 // A plain write with no record free.
 pub fn is_full(a: Access, held: u32, lent: usize) -> bool
     ensures { result ≡ full a held lent }
 {
     match a {
-        Access::NoAccess => false,
-        Access::Reads { cell: _, stamp: _ } => false,
-        Access::Writes {
-            cell: _,
-            stamp: _,
-            value: _,
-        } => {
+        Access::Writes { .. } => {
             if 1024 <= held {
                 return true;
             }
             lent <= (held as usize)
         }
+        _ => false,
     }
 }
 
@@ -35,34 +30,17 @@ pub fn is_outdated(a: Access, v: View) -> bool
     match a {
         Access::NoAccess => false,
         Access::Reads { cell, stamp } => stamp < view::stamp_of(v, index(cell)),
-        Access::Writes {
-            cell,
-            stamp,
-            value: _,
-        } => stamp <= view::stamp_of(v, index(cell)),
-    }
-}
-
-fn is_present(f: Found) -> bool
-    ensures { result ≡ present f }
-{
-    match f {
-        Found::Missing => false,
-        Found::Present { value: _ } => true,
+        Access::Writes { cell, stamp, .. } => stamp <= view::stamp_of(v, index(cell)),
     }
 }
 
 // Read: no write with that stamp; write: that stamp in the history.
-pub fn is_amiss(a: Access, f: Found) -> bool
+pub fn is_amiss(a: Access, f: Option<u32>) -> bool
     ensures { result ≡ amiss a f }
 {
     match a {
         Access::NoAccess => false,
-        Access::Reads { cell: _, stamp: _ } => !is_present(f),
-        Access::Writes {
-            cell: _,
-            stamp: _,
-            value: _,
-        } => is_present(f),
+        Access::Reads { .. } => !f.is_some(),
+        Access::Writes { .. } => f.is_some(),
     }
 }

@@ -26,7 +26,8 @@ pub struct Ask {
     pub query: Query,
 }
 
-// The cell that a record names for the slot of a rank.
+// The cell that a record names for the slot of a rank. The bound is a clause, here and where this is called: a type that has it would be
+// made of a machine's shape at each call and taken apart again.
 fn slot_cell(shape: Shape, rank: u32) -> u32
     requires { Small shape }
     ensures { result ≡ slot_cell shape rank }
@@ -40,9 +41,6 @@ fn stamped_at(shape: Shape, p: Place, stamp: u32) -> Access
     ensures { result ≡ stamped_at shape p stamp }
 {
     match p {
-        Place::Idle => Access::NoAccess,
-        Place::PutStatus { rank: _, weight: _ } => Access::NoAccess,
-        Place::PutSwap { rank: _, weight: _ } => Access::NoAccess,
         Place::PutWrite { rank, weight } => {
             let cell = slot_cell(shape, rank);
             Access::Writes {
@@ -51,14 +49,11 @@ fn stamped_at(shape: Shape, p: Place, stamp: u32) -> Access
                 value: weight,
             }
         }
-        Place::PutPublish { rank: _ } => Access::NoAccess,
-        Place::TakeStatus { rank: _ } => Access::NoAccess,
-        Place::TakeSwap { rank: _ } => Access::NoAccess,
         Place::TakeRead { rank } => {
             let cell = slot_cell(shape, rank);
             Access::Reads { cell, stamp }
         }
-        Place::TakeFree { rank: _, weight: _ } => Access::NoAccess,
+        _ => Access::NoAccess,
     }
 }
 
@@ -69,31 +64,18 @@ fn access_of(shape: Shape, verb: Verb, p: Place) -> Access
     match verb {
         Verb::Get { cell, stamp } => Access::Reads { cell, stamp },
         Verb::Set { cell, value, stamp } => Access::Writes { cell, stamp, value },
-        Verb::Load { flag: _ } => Access::NoAccess,
-        Verb::Store { flag: _, value: _ } => Access::NoAccess,
-        Verb::Swap {
-            flag: _,
-            old: _,
-            new: _,
-        } => Access::NoAccess,
-        Verb::Put { value: _ } => Access::NoAccess,
-        Verb::Take => Access::NoAccess,
-        Verb::Go => Access::NoAccess,
         Verb::GoAt { stamp } => stamped_at(shape, p, stamp),
+        _ => Access::NoAccess,
     }
 }
 
+// Cell and stamp by a function each: one that gave both would be taken apart at both its uses.
 fn cell_asked(a: Access) -> u32
     ensures { result ≡ cell_asked a }
 {
     match a {
         Access::NoAccess => 0,
-        Access::Reads { cell, stamp: _ } => cell,
-        Access::Writes {
-            cell,
-            stamp: _,
-            value: _,
-        } => cell,
+        Access::Reads { cell, .. } | Access::Writes { cell, .. } => cell,
     }
 }
 
@@ -102,12 +84,7 @@ fn stamp_asked(a: Access) -> u32
 {
     match a {
         Access::NoAccess => 0,
-        Access::Reads { cell: _, stamp } => stamp,
-        Access::Writes {
-            cell: _,
-            stamp,
-            value: _,
-        } => stamp,
+        Access::Reads { stamp, .. } | Access::Writes { stamp, .. } => stamp,
     }
 }
 
@@ -116,25 +93,16 @@ fn asked_of(m: Machine, step: Step) -> Access
     requires { Small m.shape }
     ensures { result ≡ asked m step }
 {
-    let verb = step.verb;
-    access_of(m.shape, verb, state::place_of(m, index(step.thread)))
+    access_of(m.shape, step.verb, state::place_of(m, index(step.thread)))
 }
 
 // How many records are searched: none where no access is made and the records are known to stand.
 fn records_asked(known: bool, access: Access, held: usize) -> usize
     ensures { result ≡ records_asked known access held }
 {
-    if !known {
-        return held;
-    }
     match access {
-        Access::NoAccess => 0,
-        Access::Reads { cell: _, stamp: _ } => held,
-        Access::Writes {
-            cell: _,
-            stamp: _,
-            value: _,
-        } => held,
+        Access::NoAccess if known => 0,
+        _ => held,
     }
 }
 

@@ -1,4 +1,5 @@
-// The memory steps on atomic cells, written once over a cell's name. Threads count from 0.
+// The memory steps on atomic cells, written once over a cell's name. Threads count from 0. Machine and thread are two parameters, here and
+// where steps are decided: a step changes the one and keeps the other.
 #![tactic(auto)]
 
 ghost use Rattle.std.specs.Prelude.{◌≡◌};
@@ -7,7 +8,8 @@ ghost use Rattle.atomic.specs.Atomic.{met, told, read_atomic, write_atomic, swap
 use state::{Atomic, Machine, Name};
 use view::View;
 
-// The join of thread i's view and the cell's, over the machine's own cells: what the thread gets, and what the cell gets.
+// The join of thread i's view and the cell's, over the machine's own cells: what the thread gets, and what the cell gets, each with its own
+// room and so with its own view first.
 fn meet(m: Machine, i: usize, name: Name) -> View
     ensures { result ≡ met m i name }
 {

@@ -1,11 +1,11 @@
 -- What a case asks, and how the definitions reply. Assumes nothing.
-use Rattle.std.specs.Prelude.{ℕ, zero, suc, ◌-◌, List, [], ◌∷◌, ◌++◌, replicate}
+use Rattle.std.specs.Prelude.{ℕ, zero, suc, ◌-◌, List, [], ◌∷◌, ◌++◌, replicate, Result, Ok, Err}
 use Rattle.std.proofs.Math.Option.{Option}
 use Rattle.form.specs.declared.Due.TheVariants.{WeightDue}
+use Rattle.form.specs.declared.Line as text_line
 use Rattle.fault.specs.Refusal.{number_of, place_of, part_of}
 use Rattle.line.specs.Row.{read_line}
-use Rattle.line.specs.declared.LineRead.{LineRead}
-use Rattle.line.specs.declared.LineRead.TheVariants.{Took, Fault}
+use Rattle.digits.specs.declared.Read.{Read}
 use Rattle.fault.specs.declared.Refusal.{Refusal}
 use Rattle.rules.specs.Log.{Entry, Point, start, through, seen}
 use Rattle.rules.specs.Queue.{Line, plain}
@@ -55,9 +55,9 @@ pub data Reply : Type 0 where
 abbrev pub refused_in : List ℕ → Refusal → Reply
 refused_in s r = refused (number_of r) (place_of r) (part_of s r)
 
-abbrev pub of_line : List ℕ → LineRead → Reply
-of_line s (Took x p) = taken (weight_in x)
-of_line s (Fault r) = refused_in s r
+abbrev pub of_line : List ℕ → Result (Read text_line.Line) Refusal → Reply
+of_line s (Ok x) = taken (weight_in x.value)
+of_line s (Err r) = refused_in s r
 
 abbrev pub of_text : List ℕ → Outcome → Reply
 of_text s (schedule x) = taken_as x

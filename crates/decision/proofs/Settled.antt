@@ -5,6 +5,7 @@ use mathlib.Core.List.{List}
 use Prim.Native.Nat.{ℕ, ◌-◌}
 use lib.Dec.{eqb}
 use lib.ListN.{length, set, take}
+use Rattle.std.specs.Prelude.{Option}
 use Rattle.asking.specs.Ask.{records_asked, judged_unless, sought_for, ask_by, asked_if, ask_of, rank_ask_of}
 use Rattle.asking.specs.declared.Ask.{Ask}
 use Rattle.decision.specs.Decision.{stands_by, stands_if, verdict_of, content_by}
@@ -29,7 +30,6 @@ use Rattle.writes.specs.History.{search_of}
 use Rattle.writes.specs.Searched.{sought_of, searched}
 use Rattle.writes.specs.declared.Access.{Access}
 use Rattle.writes.specs.declared.Access.TheVariants.{NoAccess, Reads, Writes}
-use Rattle.writes.specs.declared.Found.{Found}
 use Rattle.writes.specs.declared.Looked.{Looked}
 use Rattle.writes.specs.declared.Query.{Query}
 use Rattle.writes.specs.declared.Write.{Write}
@@ -48,7 +48,7 @@ module _ (m : Machine) (ws : List Write) where
       searched_is (cells_of m) (first_of m (cell_asked a - 1)) ws (cell_asked a) (stamp_asked a) m.held (sizes m (length ws) e).room
 
   module _ (known : Bool) (s : Step) where
-    abbrev by : Access → Bool → Found → Decided
+    abbrev by : Access → Bool → Option ℕ → Decided
     by a b f = decided_by (refusal_by b m (length ws) s a f) m s a f
 
     -- what the records that are searched show
@@ -82,7 +82,7 @@ module _ (m : Machine) (ws : List Write) where
     unfolding found_by looked_by search_of refusal_by
     decided_is true e =
         ap (λ (b : Bool). by (asked m s) b (shown_for known (asked m s)).looked.found) (judged_for known (asked m s))
-        ∙ ap (λ (f : Found). by (asked m s) (judged_by known m ws s) f) (shown_found known (asked m s))
+        ∙ ap (λ (f : Option ℕ). by (asked m s) (judged_by known m ws s) f) (shown_found known (asked m s))
         ∙ ap (λ (l : Looked). by (asked m s) (judged_by known m ws s) l.found) (looked_for (asked m s) e)
     decided_is false e = rw (judged_for known NoAccess, unsized known e)
 

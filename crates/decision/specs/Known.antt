@@ -9,6 +9,7 @@ use Rattle.rules.specs.declared.Decided.{Decided}
 use Rattle.standing.specs.Stands.{sizes_stand, stands}
 use Rattle.state.specs.declared.Machine.{Machine}
 use Rattle.step.specs.Answer.{number_of}
+use Rattle.step.specs.Reason.{number_by}
 use Rattle.step.specs.declared.Step.{Step}
 use Rattle.writes.specs.Records.{recorded}
 use Rattle.writes.specs.declared.Write.{Write}
@@ -40,7 +41,7 @@ abbrev pub KnownNumbered : Type 0
 KnownNumbered =
     (known : Bool) (m : Machine) (ws : List Write) (s : Step)
     → number_of (step_by known m ws s).done.answer
-    ≡ refusal_by (judged_by known m ws s) m (length ws) s (asked m s) (found_by m ws (asked m s))
+    ≡ number_by (refusal_by (judged_by known m ws s) m (length ws) s (asked m s) (found_by m ws (asked m s)))
 
 abbrev pub KnownKeeps : Type 0
 KnownKeeps =

@@ -67,7 +67,8 @@ fn close(m: Machine, i: usize, rank: u32, status: usize, answer: Answer) -> Done
     end(next, i, Place::Idle, answer)
 }
 
-// A go, by the place of the thread; a plain read has found `value`.
+// A go, by the place of the thread; a plain read has found `value`. The bounds are clauses, here and where this is called: a type that
+// has them would be made at each step and taken apart again.
 fn resume(m: Machine, i: usize, p: Place, value: u32) -> Done
     requires p_bound { rank_of p ≤ 4096 }
     requires slots_bound { m.shape.slots ≤ 16 }
@@ -92,7 +93,7 @@ fn resume(m: Machine, i: usize, p: Place, value: u32) -> Done
             Place::PutWrite { rank, weight },
             Answer::No,
         ),
-        Place::PutWrite { rank, weight: _ } => end(m, i, Place::PutPublish { rank }, Answer::Dash),
+        Place::PutWrite { rank, .. } => end(m, i, Place::PutPublish { rank }, Answer::Dash),
         Place::PutPublish { rank } => close(m, i, rank, rank::full_status(rank), Answer::Yes),
         Place::TakeStatus { rank } => look(
             m,
@@ -142,12 +143,8 @@ pub(crate) fn act(m: Machine, i: usize, verb: Verb, value: u32) -> Done
     ensures { result ≡ acted m i verb value }
 {
     match verb {
-        Verb::Get { cell: _, stamp: _ } => end(m, i, Place::Idle, Answer::Value { value }),
-        Verb::Set {
-            cell: _,
-            value: _,
-            stamp: _,
-        } => end(m, i, Place::Idle, Answer::Ok),
+        Verb::Get { .. } => end(m, i, Place::Idle, Answer::Value { value }),
+        Verb::Set { .. } => end(m, i, Place::Idle, Answer::Ok),
         Verb::Load { flag } => {
             let name = Name::Flag(index(flag));
             let cell = state::atomic_of(m, name);
@@ -187,7 +184,6 @@ pub(crate) fn act(m: Machine, i: usize, verb: Verb, value: u32) -> Done
             let take = Place::TakeStatus { rank };
             end(atomic::read_atomic(m, i, Name::Tail), i, take, Answer::Dash)
         }
-        Verb::Go => resume(m, i, state::place_of(m, i), value),
-        Verb::GoAt { stamp: _ } => resume(m, i, state::place_of(m, i), value),
+        Verb::Go | Verb::GoAt { .. } => resume(m, i, state::place_of(m, i), value),
     }
 }

@@ -7,7 +7,7 @@ ghost use Rattle.decision.specs.Decision.{rank_fits, stands_if, verdict_of, cont
 ghost use Rattle.places.specs.Places.{rank_of};
 ghost use Rattle.refusal.specs.Refusal.{refusal_by};
 ghost use Rattle.rules.specs.Access.{accessed};
-ghost use Rattle.rules.specs.Step.{value_of, taken_by, decided_by, content_if};
+ghost use Rattle.rules.specs.Step.{taken_by, decided_by, content_if};
 ghost use Rattle.state.specs.State.{place};
 
 use asking::{Ask, Asked};
@@ -15,8 +15,8 @@ use calls::{act, has_status};
 use laws::both;
 use rules::{Decided, Done};
 use state::{Machine, index};
-use step::{Answer, Step};
-use writes::{Access, Fill, Found, Query};
+use step::{Answer, Reason, Step};
+use writes::{Access, Fill, Query};
 
 mod calls; // calls.rt: the two calls, and what each verb does
 
@@ -33,13 +33,8 @@ fn make_access(m: Machine, i: usize, a: Access) -> Machine
     ensures { result ≡ accessed m i a }
 {
     match a {
-        Access::NoAccess => m,
-        Access::Reads { cell: _, stamp: _ } => m,
-        Access::Writes {
-            cell,
-            stamp,
-            value: _,
-        } => {
+        Access::NoAccess | Access::Reads { .. } => m,
+        Access::Writes { cell, stamp, .. } => {
             let row = view::with_stamp(state::row_of(m, i), index(cell), stamp);
             let mut next = state::with_row(m, i, row);
             next.held = m.held + 1;
@@ -48,47 +43,37 @@ fn make_access(m: Machine, i: usize, a: Access) -> Machine
     }
 }
 
-fn value_of(f: Found) -> u32
-    ensures { result ≡ value_of f }
-{
-    match f {
-        Found::Missing => 0,
-        Found::Present { value } => value,
-    }
-}
-
 // The step is taken: its plain access, what its verb does, and one step more.
-fn take(m: Machine, step: Step, a: Access, f: Found) -> Done
+fn take(m: Machine, step: Step, a: Access, f: Option<u32>) -> Done
     requires sized { Sized m }
     requires thread_bound { rank_of (place m (step.thread - 1)) ≤ 4096 }
     ensures { result ≡ taken_by m step a f }
 {
     let i = index(step.thread);
     let verb = step.verb;
-    let done = act(make_access(m, i, a), i, verb, value_of(f));
+    let done = act(make_access(m, i, a), i, verb, f.unwrap_or(0));
     let answer = done.answer;
     let mut machine = done.machine;
     machine.steps = m.steps + 1;
     Done { answer, machine }
 }
 
-fn decide(m: Machine, stand: bool, lent: usize, step: Step, a: Access, f: Found) -> Decided
+fn decide(m: Machine, stand: bool, lent: usize, step: Step, a: Access, f: Option<u32>) -> Decided
     requires { stand ≡ true → Sized m × (rank_fits m step ≡ true) }
     ensures { result ≡ decided_by (refusal_by stand m lent step a f) m step a f }
 {
-    let number = refusal::refusal_by(m, stand, lent, step, a, f);
-    if number == 0 {
-        let done = take(m, step, a, f);
-        return Decided { done, wrote: a };
+    if let Some(reason) = refusal::refusal_by(m, stand, lent, step, a, f) {
+        let done = Done {
+            answer: Answer::Refused { reason },
+            machine: m,
+        };
+        return Decided {
+            done,
+            wrote: Access::NoAccess,
+        };
     }
-    let done = Done {
-        answer: Answer::Refused { number },
-        machine: m,
-    };
-    Decided {
-        done,
-        wrote: Access::NoAccess,
-    }
+    let done = take(m, step, a, f);
+    Decided { done, wrote: a }
 }
 
 // The rank that the thread's place notes is one that the step can reckon with.
@@ -132,7 +117,9 @@ fn content_if(stand: bool, published: bool, weight: u32) -> Answer
     ensures { result ≡ content_if stand published weight }
 {
     if !stand {
-        return Answer::Refused { number: 14 };
+        return Answer::Refused {
+            reason: Reason::CannotStand,
+        };
     }
     if published {
         return Answer::Value { value: weight };

@@ -13,9 +13,8 @@ use Rattle.number.proofs.Decimal.{by_tens, text_small, text_big, length_snoc, le
 use Rattle.digits.proofs.Digits.{step_yes, stop_got, step_end, number_zero, number_rest, weight_more}
 use Rattle.number.proofs.Standing.{stands_left, stands_right}
 use Rattle.number.specs.Bytes.{Stands}
-use Rattle.digits.specs.Reading.{is_digit, digits, number, weight}
+use Rattle.digits.specs.Reading.{got, is_digit, digits, number, weight}
 use Rattle.number.specs.Text.{number_text, last_digits, weight_text}
-use Rattle.digits.specs.declared.Reading.TheVariants.{Got}
 
 abbrev AllDigits : List ℕ → Type 0
 AllDigits [] = Unit {0}
@@ -38,8 +37,8 @@ run : (t : List ℕ) (j may : ℕ) (s : List ℕ) (at v : ℕ) → AllDigits t �
     → digits (length t + j) may s at v ≡ digits j may s (at + length t) (value_of v t)
 run [] j may s at v a h = rw (zero-add, add-zero)
 run (b ∷ t) j may s at v a h =
-    step_yes (suc (length t) + j) may s at v (omega arith) (ap is_digit h.0 ∙ a.0)
-    ∙ (λ i. digits ((let e : suc (length t) + j - 1 ≡ length t + j = omega arith in e) i) may s (at + 1) (v * 10 + (h.0 i - 48)))
+    step_yes (suc (length t) + j) (length t + j) may s at v (omega arith) (ap is_digit h.0 ∙ a.0)
+    ∙ (λ i. digits (length t + j) may s (at + 1) (v * 10 + (h.0 i - 48)))
     ∙ run t j may s (at + 1) (v * 10 + (b - 48)) a.1 h.1
     ∙ ap (λ (k : ℕ). digits j may s k (value_of (v * 10 + (b - 48)) t)) (omega arith)
 
@@ -66,7 +65,7 @@ text_of =
 
 -- a number's text is read as that number, where it is not too long and no digit follows
 pub number_reads : (most : ℕ) (s : List ℕ) (at v : ℕ) → length (number_text v) ≤ most → Stands s at (number_text v)
-    → is_digit (get_or s (at + length (number_text v)) 0) ≡ false → number most s at ≡ Got v (at + length (number_text v))
+    → is_digit (get_or s (at + length (number_text v)) 0) ≡ false → number most s at ≡ got v (at + length (number_text v))
 number_reads most s at v h st nd =
     let t = number_text v in
     let g = text_of v in
@@ -79,14 +78,14 @@ number_reads most s at v h st nd =
     ∙ ap (λ (k : ℕ). digits k (most - 1) s at 0) (let e : most ≡ length t + (most - length t) = omega arith in e)
     ∙ run t (most - length t) (most - 1) s at 0 g.0 st
     ∙ ends (most - length t) (most - 1) s (at + length t) (value_of 0 t) (omega (arith, g.2)) nd
-    ∙ ap (λ (k : ℕ). Got k (at + length t)) g.1)
+    ∙ ap (λ (k : ℕ). got k (at + length t)) g.1)
     (split v 1)
   where
     first : (s : List ℕ) (at : ℕ) (t : List ℕ) → 0 < length t → Stands s at t → get_or s at 0 ≡ get_or t 0 0
     first s at [] h st = absurd (not-suc-le-zero h)
     first s at (b ∷ t) h st = st.0
 
-    ends : (j may : ℕ) (s : List ℕ) (p v : ℕ) → j ≤ may → is_digit (get_or s p 0) ≡ false → digits j may s p v ≡ Got v p
+    ends : (j may : ℕ) (s : List ℕ) (p v : ℕ) → j ≤ may → is_digit (get_or s p 0) ≡ false → digits j may s p v ≡ got v p
     ends zero may s p v h nd = step_end zero may s p v refl
     ends (suc j) may s p v h nd = stop_got (suc j) may s p v (omega arith) nd h
 
@@ -100,7 +99,7 @@ unfolding is_digit
 point_none = refl
 
 -- a weight's text is read as that weight
-pub weight_reads : (s : List ℕ) (at v : ℕ) → v < 10 ^ 10 → Stands s at (weight_text v) → weight s at ≡ Got v (at + length (weight_text v))
+pub weight_reads : (s : List ℕ) (at v : ℕ) → v < 10 ^ 10 → Stands s at (weight_text v) → weight s at ≡ got v (at + length (weight_text v))
 unfolding weight_text last_digits
 weight_reads s at v h st =
     let n = number_text (v / 1000) in
@@ -111,5 +110,5 @@ weight_reads s at v h st =
     weight_more s at (v / 1000) p (number_reads 7 s at (v / 1000) (length_pow 6 (v / 1000) (omega arith)) whole nd) frac.0
     ∙ run (last_digits 3 v) 0 0 s (p + 1) (v / 1000) (all_last 3 v) frac.1
     ∙ step_end 0 0 s _ _ refl
-    ∙ (λ i. Got ((let e : value_of (v / 1000) (last_digits 3 v) ≡ v = omega arith in e) i)
+    ∙ (λ i. got ((let e : value_of (v / 1000) (last_digits 3 v) ≡ v = omega arith in e) i)
     ((let e : p + 1 + 3 ≡ at + length (weight_text v) = omega (arith, length_weight v) in e) i))

@@ -5,19 +5,18 @@
 
 use fault::Refusal;
 use form::{Due, Header, Line};
-use line::LineRead;
-use schedule::Judged;
-use writer::LineWritten;
+use writer::Unwritten;
 
+// What is due, by the mark that the input has for it.
 fn due_for(mark: u8) -> Due {
     match mark {
-        104 => Due::HeaderDue(Header::Shape),
-        116 => Due::HeaderDue(Header::Threads),
-        99 => Due::HeaderDue(Header::Slots),
-        112 => Due::HeaderDue(Header::Plain),
-        102 => Due::HeaderDue(Header::Flag),
-        110 => Due::HeaderDue(Header::Steps),
-        119 => Due::WeightDue,
+        b'h' => Due::HeaderDue(Header::Shape),
+        b't' => Due::HeaderDue(Header::Threads),
+        b'c' => Due::HeaderDue(Header::Slots),
+        b'p' => Due::HeaderDue(Header::Plain),
+        b'f' => Due::HeaderDue(Header::Flag),
+        b'n' => Due::HeaderDue(Header::Steps),
+        b'w' => Due::WeightDue,
         _ => Due::StepDue,
     }
 }
@@ -26,23 +25,22 @@ fn show_taken(x: Line) {
     let mut space = [0u8; 64];
     let room: &mut [u8] = &mut space;
     match writer::put_line(room, 0, x) {
-        LineWritten::Upto(n) => {
+        Ok(n) => {
             io::write_all(1, b"taken ");
             show_first(room, n);
         }
-        LineWritten::NotInRange => {
+        Err(Unwritten::NotInRange) => {
             io::write_all(1, b"not in range\n");
         }
-        LineWritten::NoRoom => {
+        Err(Unwritten::NoRoom) => {
             io::write_all(1, b"no room\n");
         }
     }
 }
 
+// A buffer and how much of it is used: there is no heap.
 fn show_first(bytes: &[u8], n: usize) {
-    if n <= bytes.len() {
-        let from = 0;
-        let part = &bytes[from..n];
+    if let Some(part) = bytes.get(..n) {
         io::write_all(1, part);
     }
 }
@@ -56,45 +54,37 @@ fn show_refused(text: &[u8], r: Refusal) {
 
 fn show_case(text: &[u8], at: usize, mark: u8) {
     match reader::line_of(text, at, due_for(mark)) {
-        LineRead::Took(x, _) => show_taken(x),
-        LineRead::Fault(r) => show_refused(text, r),
+        Ok(x) => show_taken(x.value),
+        Err(r) => show_refused(text, r),
     }
 }
 
 // The place after the line that begins at a place, and its LF; the end of a text that has none.
 fn next_line(text: &[u8], at: usize) -> usize {
     let n = fault::line_at(text, at).len();
-    if n < text.len() {
-        if at < text.len() - n {
-            return at + n + 1;
-        }
-    }
-    text.len()
+    at.saturating_add(n).saturating_add(1).min(text.len())
 }
 
 fn show_cases(text: &[u8]) {
     let mut at = 0;
-    let mut left: usize = 4096;
-    while 0 < left {
-        if text.len() <= at {
+    for _ in 0..4096 {
+        let Some(mark) = text.get(at) else {
             return;
-        }
-        let mark = text[at];
+        };
         if at < 65536 {
-            show_case(text, at + 2, mark);
+            show_case(text, at + 2, *mark);
         }
         at = next_line(text, at);
-        left = left - 1;
     }
 }
 
 fn show_whole(name: &[u8], text: &[u8]) {
     io::write_all(1, name);
     match judging::judge(text) {
-        Judged::Taken(_) => {
+        Ok(_) => {
             io::write_all(1, b" taken\n");
         }
-        Judged::Refused(r) => {
+        Err(r) => {
             io::write_all(1, b" ");
             io::print_decimal(1, fault::number_of(r) as u64);
             io::write_all(1, b" ");

@@ -7,7 +7,6 @@ ghost use Rattle.opening.specs.Opening.{opened_of};
 ghost use Rattle.texts.specs.Schedule.{weight_in, weights_at};
 
 use form::{Due, Line};
-use line::LineRead;
 use schedule::{Section, Sections};
 use state::Machine;
 
@@ -15,9 +14,8 @@ fn weight_in(line: Line) -> u32
     ensures { result ≡ weight_in line }
 {
     match line {
-        Line::HeaderLine(_, _) => 0,
         Line::WeightLine(w) => w,
-        Line::StepLine(_) => 0,
+        _ => 0,
     }
 }
 
@@ -25,11 +23,10 @@ fn weight_in(line: Line) -> u32
 fn first_lines(s: Section, most: u32) -> Section
     ensures { (result.count ≡ min s.count most) × (result.at ≡ s.at) }
 {
-    if s.count <= most {
-        return s;
+    Section {
+        count: s.count.min(most),
+        at: s.at,
     }
-    let at = s.at;
-    Section { count: most, at }
 }
 
 // The weights of a section, into a room: how many.
@@ -38,25 +35,22 @@ fn read_weights(text: &[u8], s: Section, room: &mut [u32]) -> usize
     ensures { Wrote room.old 0 (weights_at text.now s) result room.new }
 {
     let mut at = s.at;
-    let mut left = s.count;
-    let mut n: usize = 0;
-    while 0 < left {
+    let count = s.count as usize;
+    for n in 0..count {
         match reader::line_of(text, at, Due::WeightDue) {
-            LineRead::Took(x, p) => {
-                room[n] = weight_in(x);
-                n = n + 1;
-                at = p;
+            Ok(x) => {
+                room[n] = weight_in(x.value);
+                at = x.next;
             }
-            LineRead::Fault(_) => {
+            Err(_) => {
                 return n;
             }
         }
-        left = left - 1;
     }
-    n
+    count
 }
 
-// A machine opened with the first values of two rooms, so many of each.
+// A machine opened with the first values of two rooms, so many of each: there is no heap.
 fn open_rooms(threads: u32, slots: u32, cells: &[u32], n: usize, flags: &[u32], f: usize) -> Machine
     requires { (n ≤ length cells.now) × (f ≤ length flags.now) }
     ensures { result ≡ (opened_of threads slots (take n cells.now) (take f flags.now)).machine }

@@ -1,21 +1,18 @@
-// The whole text of a schedule, judged from the front: what is due is read, one line at a time from a reader.
+// The whole text of a schedule, judged.
 #![tactic(auto)]
 
 ghost use Rattle.std.specs.Prelude.{◌≡◌};
 ghost use Rattle.schedule.specs.Sections.{judged};
 
-use schedule::Judged;
+use fault::Refusal;
+use schedule::Sections;
 
-// A text of any bytes and any length, judged.
-pub fn judge(text: &[u8]) -> Judged
+// A text of any bytes and any length, judged: its length first, then its sections from the front.
+pub fn judge(text: &[u8]) -> Result<Sections, Refusal>
     ensures { result ≡ judged text.now }
 {
-    let mut r = reader::on(text);
-    let mut g = schedule::begin(text.len());
-    while g.on {
-        let l = reader::next_line(r, schedule::due_in(g));
-        g = schedule::pass_line(g, l);
-        r = reader::moved(r, g.at);
+    if 65536 < text.len() {
+        return Err(Refusal::TooLong);
     }
-    schedule::end_text(g, text.len())
+    schedule::read_sections(text)
 }

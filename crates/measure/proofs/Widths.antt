@@ -1,39 +1,35 @@
 -- Laws of the ranges of a line and of its widths. Assumes nothing.
-use mathlib.Core.Path.{◌≡◌, refl, sym, ◌∙◌}
+use mathlib.Core.Path.{◌≡◌, refl, sym, ap, ◌∙◌}
 use mathlib.Core.Bool.{Bool, true, false, cond, ◌&&◌}
 use mathlib.Core.List.{List, [], ◌∷◌}
 use mathlib.Core.Logic.{⊎_elim}
 use Prim.Native.Nat.{ℕ, zero, suc, ◌+◌, ◌/◌, ◌^◌, ◌≤◌, ◌<◌}
-use native.Mathlib.Numerals.{add-one}
 use native.Mathlib.Omega.{arith}
-use borrow.Author.Tests.{eq-eqb, ne_eqb}
 use lib.Dec.{eqb}
-use lib.ListN.{length, get_or, drop, replicate, length-append, drop_of_length-le, get_or-map}
-use lib.Seq.{drop-cons}
+use lib.ListN.{length, get_or, replicate, length-append, get_or-map, take}
+use Rattle.std.specs.Prelude.{not, ◌==◌}
+use Rattle.std.specs.List.{take_while}
+use Rattle.std.proofs.lemmas.List.Folds.{length-prefix_len}
+use Rattle.std.proofs.lemmas.List.Sums.{take_while-cons}
 use Rattle.form.specs.Range.{in_range, limited}
 use Rattle.form.specs.Table.{bare, form_total, forms, form_at, word_of, kind_a, kind_b, kind_c}
 use Rattle.form.specs.Text.{operand_text, lead_text, word_text, form_text}
 use Rattle.form.specs.declared.Form.{Form}
 use Rattle.form.specs.declared.Kind.{Kind}
 use Rattle.form.specs.declared.Kind.TheVariants.{Nothing, Count, Thousandths}
-use Rattle.form.specs.declared.Limited.{Limited}
-use Rattle.form.specs.declared.Limited.TheVariants.{Within, Outside}
 use Rattle.laws.proofs.Choice.{either}
 use Rattle.number.proofs.Decimal.{length_snoc, length_weight, length_pow}
 use Rattle.number.specs.Text.{number_text, weight_text}
+use Rattle.std.specs.Prelude.{Some, None, is_some}
 
 -- what `limit` says as a test
-abbrev pub within : Limited → Bool
-within (Within v) = true
-within Outside = false
-
-within_is : (b : Bool) (v : ℕ) → within (cond b (Within v) Outside) ≡ b
-within_is true v = refl
-within_is false v = refl
-
-pub within_limited : (k : Kind) (v : ℕ) → within (limited k v) ≡ in_range k v
+pub some_limited : (k : Kind) (v : ℕ) → is_some (limited k v) ≡ in_range k v
 unfolding limited
-within_limited k v = within_is (in_range k v) v
+some_limited k v = go (in_range k v)
+  where
+    go : (b : Bool) → is_some (cond b (Some v) None) ≡ b
+    go true = refl
+    go false = refl
 
 -- `a && b` in code: where the first test x held the answer is the second's, and else it is x
 pub and_taken : {a b x y : Bool} → x ≡ a → x ≡ true → y ≡ b → y ≡ (a && b)
@@ -42,18 +38,21 @@ and_taken p t q = rw (sym p ∙ t) q
 pub and_untaken : {a x : Bool} (b : Bool) → x ≡ a → x ≡ false → x ≡ (a && b)
 and_untaken b p t = rw (sym p ∙ t) t
 
-module _ (w : List ℕ) (j : ℕ) where
-  pub text_end : length w ≤ j → word_text (drop j w) ≡ []
-  unfolding word_text
-  text_end h = rw (drop_of_length-le w {i = j} h)
+cond_not : (c : Bool) (x y : List ℕ) → cond c x y ≡ cond (not c) y x
+cond_not true x y = refl
+cond_not false x y = refl
 
-  pub text_zero : j < length w → get_or w j 0 ≡ 0 → word_text (drop j w) ≡ []
-  unfolding word_text
-  text_zero h e = rw (drop-cons w j 0 h, eq-eqb _ _ e)
+-- a word is what stands before its first 0
+pub word_taken : (w : List ℕ) → take_while (λ b. not (b == 0)) w ≡ word_text w
+unfolding word_text
+word_taken [] = refl
+word_taken (b ∷ w) =
+    take_while-cons (λ b. not (b == 0)) b w
+    ∙ sym (cond_not (eqb b 0) [] (b ∷ take_while (λ b. not (b == 0)) w))
+    ∙ ap (λ (t : List ℕ). cond (eqb b 0) [] (b ∷ t)) (word_taken w)
 
-  pub text_more : j < length w → (get_or w j 0 ≡ 0 → ⊥) → word_text (drop j w) ≡ get_or w j 0 ∷ word_text (drop (j + 1) w)
-  unfolding word_text
-  text_more h e = rw (drop-cons w j 0 h, ne_eqb _ _ e, add-one j)
+pub word_front : (w : List ℕ) → take (length (word_text w)) w ≡ word_text w
+word_front w = rw (← word_taken w, length-prefix_len)
 
 -- no number of 32 bits has a text of more than 10 bytes
 pub number_short : (v : ℕ) → v < 2 ^ 32 → length (number_text v) ≤ 10

@@ -6,16 +6,13 @@ ghost use Rattle.form.specs.Range.{in_range};
 ghost use Rattle.form.specs.Line.{fields_in_range};
 ghost use Rattle.form.specs.Text.{word_text, operand_text, lead_text, form_text, fields_text};
 
-use form::{Fields, Kind, Limited};
+use form::{Fields, Kind};
 
 // A number is in the range of its kind.
 fn in_range(kind: Kind, v: u32) -> bool
     ensures { result ≡ in_range kind v }
 {
-    match form::limit(kind, v as u64) {
-        Limited::Within(_) => true,
-        Limited::Outside => false,
-    }
+    form::limit(kind, v as u64).is_some()
 }
 
 // Every number of a line is in its range.
@@ -33,14 +30,7 @@ pub fn fields_in_range(lead: Kind, f: Fields) -> bool
 pub fn word_width(w: &[u8]) -> usize
     ensures { result ≡ length (word_text w.now) }
 {
-    let mut j = 0;
-    while j < w.len() {
-        if w[j] == 0 {
-            return j;
-        }
-        j = j + 1;
-    }
-    j
+    w.iter().take_while(|b| **b != 0).count()
 }
 
 fn operand_width(kind: Kind, v: u32) -> usize
@@ -63,6 +53,7 @@ fn lead_width(kind: Kind, v: u32) -> usize
     }
 }
 
+// The row and its operands are four parameters, here and in `writer`, as `form_text` has them: what leads a line is no part of them.
 fn form_width(form: usize, a: u32, b: u32, c: u32) -> usize
     ensures { result ≡ length (form_text form a b c) }
 {

@@ -12,6 +12,8 @@ use Rattle.state.specs.declared.Place.TheVariants.{Idle}
 use Rattle.state.specs.declared.Shape.{Shape}
 use Rattle.step.specs.Limit.{most}
 use Rattle.step.specs.declared.Answer.TheVariants.{Ok, Refused}
+use Rattle.step.specs.declared.Reason.{Reason}
+use Rattle.step.specs.declared.Reason.TheVariants.{OutOfRange, TooGreat}
 use Rattle.view.specs.View.{zero_view}
 
 -- every weight at most 1,000,000,000
@@ -54,13 +56,13 @@ unfoldable pub fresh : ℕ → ℕ → List ℕ → List ℕ → Machine
 fresh t c plain flags = unmoved (shape t c (length plain) (length flags)) (given_room plain) (flags_room flags) (statuses_room c)
 
 -- A refused opening gives no machine: all is zero, and that does not stand.
-unfoldable pub refused_opening : ℕ → Opened
-refused_opening n =
-    record { answer = Refused n; machine = unmoved (shape 0 0 0 0) (replicate 16 0) (replicate 8 zero_atomic) (replicate 16 zero_atomic) }
+unfoldable pub refused_opening : Reason → Opened
+refused_opening r =
+    record { answer = Refused r; machine = unmoved (shape 0 0 0 0) (replicate 16 0) (replicate 8 zero_atomic) (replicate 16 zero_atomic) }
 
 abbrev pub opened_if : Bool → Bool → Machine → Opened
-opened_if false b m = refused_opening 5
-opened_if true false m = refused_opening 10
+opened_if false b m = refused_opening OutOfRange
+opened_if true false m = refused_opening TooGreat
 opened_if true true m = record { answer = Ok; machine = m }
 
 -- Opening: 5, then 10.

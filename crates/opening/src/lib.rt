@@ -1,14 +1,18 @@
 // A machine is opened from T, C and the first values of its plain cells and flags.
 #![tactic(auto)]
 
-ghost use Rattle.std.specs.Prelude.{◌≡◌, ◌≤◌, length};
-ghost use Rattle.opening.specs.Opening.{weights_stand, given_room, flags_room, statuses_room, unmoved, refused_opening, fresh, opened_of};
+ghost use Rattle.std.specs.Prelude.{◌≡◌, ◌<◌, ◌≤◌, length};
+ghost use Rattle.rank.specs.Rank.{free_status};
+ghost use Rattle.state.specs.State.{atomic};
+ghost use Rattle.view.specs.View.{zero_view};
+ghost use Rattle.opening.specs.Opening.{weights_stand, unmoved, refused_opening, fresh, opened_of};
 
-use laws::{both, number_at};
+use laws::{both, filled, item_or};
 use state::{Atomic, Machine, Place, Shape, Thread};
-use step::{Answer, MOST};
+use step::{Answer, MOST, Reason};
 
-// The machine and how the opening is answered: `Ok`, or refused with a machine that is all zero and cannot stand.
+// The machine and how the opening is answered: `Ok`, or refused with a machine that is all zero and cannot stand. No Result: that such a
+// machine does not stand is promised too (`RefusedFalls`).
 #[derive(Clone, Copy)]
 pub struct Opened {
     pub answer: Answer,
@@ -18,62 +22,17 @@ pub struct Opened {
 fn weights_stand(s: &[u32]) -> bool
     ensures { result ≡ weights_stand s.now }
 {
-    let n = s.len();
-    let mut i: usize = 0;
-    while i < n {
-        if MOST < number_at(s, i) {
-            return false;
-        }
-        i += 1;
-    }
-    true
+    s.iter().all(|w| *w <= MOST)
 }
 
-fn given_room(plain: &[u32]) -> [u32; 16]
-    requires { length plain.now ≤ 16 }
-    ensures { result ≡ given_room plain.now }
+// The status of slot i at opening.
+fn status_at(i: usize) -> Atomic
+    requires { i < 16 }
+    ensures { result ≡ atomic (free_status i) zero_view }
 {
-    let mut room = [0u32; 16];
-    let n = plain.len();
-    let mut i: usize = 0;
-    while i < n {
-        room[i] = number_at(plain, i);
-        i += 1;
-    }
-    room
-}
-
-fn flags_room(flags: &[u32]) -> [Atomic; 8]
-    requires { length flags.now ≤ 8 }
-    ensures { result ≡ flags_room flags.now }
-{
-    let none = state::zero_atomic();
+    let value = rank::free_status(i as u32) as u32;
     let view = view::zero_view();
-    let mut room = [none; 8];
-    let n = flags.len();
-    let mut i: usize = 0;
-    while i < n {
-        let value = number_at(flags, i);
-        room[i] = Atomic { value, view };
-        i += 1;
-    }
-    room
-}
-
-fn statuses_room(slots: u32) -> [Atomic; 16]
-    requires { slots ≤ 16 }
-    ensures { result ≡ statuses_room slots }
-{
-    let none = state::zero_atomic();
-    let view = view::zero_view();
-    let mut room = [none; 16];
-    let mut i: u32 = 0;
-    while i < slots {
-        let value = rank::free_status(i) as u32;
-        room[i as usize] = Atomic { value, view };
-        i += 1;
-    }
-    room
+    Atomic { value, view }
 }
 
 fn machine_of(
@@ -101,8 +60,8 @@ fn machine_of(
     }
 }
 
-fn refused(number: u32) -> Opened
-    ensures { result ≡ refused_opening number }
+fn refused(reason: Reason) -> Opened
+    ensures { result ≡ refused_opening reason }
 {
     let none = state::zero_atomic();
     let shape = Shape {
@@ -113,7 +72,7 @@ fn refused(number: u32) -> Opened
     };
     let machine = machine_of(shape, [0u32; 16], [none; 8], [none; 16]);
     Opened {
-        answer: Answer::Refused { number },
+        answer: Answer::Refused { reason },
         machine,
     }
 }
@@ -122,20 +81,27 @@ fn fresh_machine(threads: u32, slots: u32, plain: &[u32], flags: &[u32]) -> Mach
     requires { (slots ≤ 16) × (length plain.now ≤ 16) × (length flags.now ≤ 8) }
     ensures { result ≡ fresh threads slots plain.now flags.now }
 {
-    let n = plain.len() as u32;
-    let f = flags.len() as u32;
+    let n = plain.len();
+    let f = flags.len();
     let shape = Shape {
         threads,
         slots,
-        plain: n,
-        flags: f,
+        plain: n as u32,
+        flags: f as u32,
     };
-    machine_of(
-        shape,
-        given_room(plain),
-        flags_room(flags),
-        statuses_room(slots),
-    )
+    let view = view::zero_view();
+    let none = state::zero_atomic();
+    let given_room = filled(|i| item_or(plain, i, 0), n, [0; 16]);
+    let flags_room = filled(
+        |i| Atomic {
+            value: item_or(flags, i, 0),
+            view,
+        },
+        f,
+        [none; 8],
+    );
+    let statuses_room = filled(status_at, slots as usize, [none; 16]);
+    machine_of(shape, given_room, flags_room, statuses_room)
 }
 
 // Opening: 5, then 10.
@@ -144,11 +110,11 @@ pub fn opening(threads: u32, slots: u32, plain: &[u32], flags: &[u32]) -> Opened
 {
     let shaped = standing::in_shape(threads as usize, slots as usize, plain.len(), flags.len());
     if !shaped {
-        return refused(5);
+        return refused(Reason::OutOfRange);
     }
     let weighed = both(weights_stand(plain), weights_stand(flags));
     if !weighed {
-        return refused(10);
+        return refused(Reason::TooGreat);
     }
     let machine = fresh_machine(threads, slots, plain, flags);
     Opened {

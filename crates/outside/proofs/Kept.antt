@@ -10,6 +10,7 @@ use borrow.Author.Tests.{lt-ltb, le-ltb, ltb-false, leb-true, not-false}
 use lib.Dec.{ltb}
 use lib.ListN.{length, drop}
 use lib.Seq.{sets-eq}
+use Rattle.std.specs.Prelude.{None}
 use Rattle.image.proofs.Faithful.{image_long, image_faithful, image_whole}
 use Rattle.image.proofs.Taken.{image_taken}
 use Rattle.image.specs.Image.{words_of, machine_of, is_image}
@@ -17,8 +18,9 @@ use Rattle.laws.proofs.Tests.{apart}
 use Rattle.number.proofs.Stores.{placed_fits}
 use Rattle.number.specs.Buffer.{placed}
 use Rattle.outside.specs.Asked.{step_asked, is_asked, answer_words}
-use Rattle.outside.specs.Call.{refused_call, step_called, called}
+use Rattle.outside.specs.Call.{refused_call, step_called, number_called, called}
 use Rattle.outside.specs.Promise.{CallOrdered, CallKeeps, CallTakes, CallNumbered}
+use Rattle.outside.specs.declared.CallRefusal.TheVariants.{NoStep, NoImage, NoRoom}
 use Rattle.outside.proofs.Left.{left_new, left_came, words_two}
 use Rattle.refusal.specs.Refusal.{refuse}
 use Rattle.rules.proofs.Refused.{step_numbered}
@@ -43,7 +45,8 @@ front : (l t : List ℕ) (n : ℕ) → length t ≡ n → n ≤ length l → pla
 front l t n e h = placed_fits l 0 t (omega arith) ∙ sets-eq t l 0 (omega arith) ∙ rw (zero-add, e) refl
 
 -- a call that is not refused
-none : (a b c : Bool) (n : ℕ) → refuse a 15 (refuse b 2 (refuse c 14 n)) ≡ 0 → (a ≡ false) × (b ≡ false) × (c ≡ false) × (n ≡ 0)
+none : (a b c : Bool) (n : ℕ) → number_called (refuse a NoRoom (refuse b NoStep (refuse c NoImage None))) n ≡ 0
+    → (a ≡ false) × (b ≡ false) × (c ≡ false) × (n ≡ 0)
 none true b c n e = absurd (omega arith)
 none false true c n e = absurd (omega arith)
 none false false true n e = absurd (omega arith)
@@ -76,7 +79,7 @@ call_takes s ws asked a e =
     }
 
 some : (a b c : Bool) (n : ℕ) → (n ≡ 0) ⊎ ((6 ≤ n) × (n ≤ 14))
-    → let r = refuse a 15 (refuse b 2 (refuse c 14 n)) in (r ≡ 0) ⊎ (r ≡ 2) ⊎ ((6 ≤ r) × (r ≤ 15))
+    → let r = number_called (refuse a NoRoom (refuse b NoStep (refuse c NoImage None))) n in (r ≡ 0) ⊎ (r ≡ 2) ⊎ ((6 ≤ r) × (r ≤ 15))
 some true b c n h = inr (inr (omega arith, omega arith))
 some false true c n h = inr (inl refl)
 some false false true n h = inr (inr (omega arith, omega arith))

@@ -2,10 +2,9 @@
 use mathlib.Core.Path.{◌≡◌, refl}
 use Prim.Native.Nat.{ℕ, zero, suc, ◌<◌}
 use native.Mathlib.Omega.{arith}
-use lib.ListN.{length, get_or}
+use lib.ListN.{length}
 use Rattle.outside.specs.Asked.{answer_words}
 use Rattle.outside.specs.Call.{left}
-use Rattle.step.specs.Answer.{number_of}
 use Rattle.step.specs.declared.Answer.{Answer}
 use Rattle.step.specs.declared.Answer.TheVariants.{Dash, Ok, Value, Yes, No, None, Got, Refused}
 
@@ -16,27 +15,6 @@ pub left_came : {A : Type 0} (n : ℕ) (new came : A) → 0 < n → left n new c
 left_came zero new came h = absurd (omega arith)
 left_came (suc n) new came h = refl
 
--- the kind 7 is a refusal's alone
-pub refusal_number : (a : Answer) → get_or (answer_words a) 0 0 ≡ 7 → get_or (answer_words a) 1 0 ≡ number_of a
-refusal_number Dash e = absurd (omega arith)
-refusal_number Ok e = absurd (omega arith)
-refusal_number (Value v) e = absurd (omega arith)
-refusal_number Yes e = absurd (omega arith)
-refusal_number No e = absurd (omega arith)
-refusal_number None e = absurd (omega arith)
-refusal_number (Got w) e = absurd (omega arith)
-refusal_number (Refused n) e = refl
-
-pub taken_number : (a : Answer) → (get_or (answer_words a) 0 0 ≡ 7 → ⊥) → 0 ≡ number_of a
-taken_number Dash h = refl
-taken_number Ok h = refl
-taken_number (Value v) h = refl
-taken_number Yes h = refl
-taken_number No h = refl
-taken_number None h = refl
-taken_number (Got w) h = refl
-taken_number (Refused n) h = absurd (h refl)
-
 pub words_two : (a : Answer) → length (answer_words a) ≡ 2
 words_two Dash = refl
 words_two Ok = refl
@@ -45,4 +23,4 @@ words_two Yes = refl
 words_two No = refl
 words_two None = refl
 words_two (Got w) = refl
-words_two (Refused n) = refl
+words_two (Refused r) = refl

@@ -4,12 +4,12 @@
 ghost use Rattle.std.specs.Prelude.{◌≡◌};
 ghost use Rattle.image.specs.Image.{words_of, machine_of};
 ghost use Rattle.number.specs.Buffer.{placed};
-ghost use Rattle.outside.specs.Asked.{step_asked, is_asked, no_step, answer_words};
-ghost use Rattle.outside.specs.Call.{lent, refused_call, left, called};
+ghost use Rattle.outside.specs.Asked.{step_asked, is_asked, answer_words};
+ghost use Rattle.outside.specs.Call.{lent, call_number, refused_call, step_for, number_called, left, called};
 ghost use Rattle.step.specs.Answer.{number_of};
 
 use form::Line;
-use laws::{both, number_at};
+use laws::{both, item_or};
 use rules::Done;
 use state::Machine;
 use step::{Answer, Step, Verb};
@@ -19,15 +19,16 @@ use writes::Write;
 fn step_asked(s: &[u32]) -> Step
     ensures { result ≡ step_asked s.now }
 {
-    let thread = number_at(s, 0);
-    let n = number_at(s, 1);
-    let a = number_at(s, 2);
-    let b = number_at(s, 3);
-    let c = number_at(s, 4);
+    let thread = item_or(s, 0, 0);
+    let n = item_or(s, 1, 0);
+    let a = item_or(s, 2, 0);
+    let b = item_or(s, 3, 0);
+    let c = item_or(s, 4, 0);
     let verb = form::verb_of(n as usize, a, b, c);
     Step { thread, verb }
 }
 
+// The words say a line of the table. Four of the five are compared with its fields: a `Fields` made of them would have to name the fifth.
 fn is_asked(s: &[u32]) -> bool
     ensures { result ≡ is_asked s.now }
 {
@@ -36,56 +37,73 @@ fn is_asked(s: &[u32]) -> bool
     }
     let step = step_asked(s);
     let f = form::fields_of(Line::StepLine(step));
-    let row = (number_at(s, 1) as usize) == f.form;
-    let a = number_at(s, 2) == f.a;
-    let b = number_at(s, 3) == f.b;
-    let c = number_at(s, 4) == f.c;
+    let row = (item_or(s, 1, 0) as usize) == f.form;
+    let a = item_or(s, 2, 0) == f.a;
+    let b = item_or(s, 3, 0) == f.b;
+    let c = item_or(s, 4, 0) == f.c;
     both(both(row, a), both(b, c))
 }
 
-// The number that a call is refused by before its step, else 0.
-fn refused_call(state: &[u32], asked: &[u32], room: usize) -> u32
-    ensures { result ≡ refused_call state.now asked.now room 0 }
-{
-    if room < 2 {
-        return 15;
-    }
-    let step = is_asked(asked);
-    if !step {
-        return 2;
-    }
-    let image = image::is_image(state);
-    if image { 0 } else { 14 }
+// Why a call is refused before its step, by the paper's numbers: it asks no step, is lent no image, or no room for the answer.
+#[derive(Clone, Copy)]
+enum CallRefusal {
+    NoStep = 2,
+    NoImage = 14,
+    NoRoom = 15,
 }
 
-// What a call asks, with the number that it is refused by before its step, else 0.
+impl CallRefusal {
+    fn number(self) -> u32
+        ensures { result ≡ call_number self }
+    {
+        self as u32
+    }
+}
+
+fn refused_call(state: &[u32], asked: &[u32], room: usize) -> Option<CallRefusal>
+    ensures { result ≡ refused_call state.now asked.now room }
+{
+    if room < 2 {
+        return Some(CallRefusal::NoRoom);
+    }
+    if !is_asked(asked) {
+        return Some(CallRefusal::NoStep);
+    }
+    if !image::is_image(state) {
+        return Some(CallRefusal::NoImage);
+    }
+    None
+}
+
+// What a call asks, and why it is refused before its step, if it is.
 #[derive(Clone, Copy)]
 struct Call {
-    number: u32,
+    refused: Option<CallRefusal>,
     machine: Machine,
     step: Step,
 }
 
 // A refused call asks a step that no state takes, which changes nothing.
 fn call_of(state: &[u32], asked: &[u32], room: usize) -> Call
-    ensures { (result.number ≡ refused_call state.now asked.now room 0) × (result.machine ≡ machine_of state.now) × (result.step ≡ left result.number (step_asked asked.now) no_step) }
+    ensures { (result.refused ≡ refused_call state.now asked.now room) × (result.machine ≡ machine_of state.now) × (result.step ≡ step_for result.refused asked.now) }
 {
-    let number = refused_call(state, asked, room);
+    let refused = refused_call(state, asked, room);
     let machine = image::machine_of(state);
-    let mut step = step_asked(asked);
-    if 0 < number {
-        step = Step {
+    let step = match refused {
+        None => step_asked(asked),
+        Some(_) => Step {
             thread: 0,
             verb: Verb::Go,
-        };
-    }
+        },
+    };
     Call {
-        number,
+        refused,
         machine,
         step,
     }
 }
 
+// An answer in the two words that callers in C read.
 fn answer_words(a: Answer) -> [u32; 2]
     ensures { result ≡ answer_words a }
 {
@@ -97,29 +115,20 @@ fn answer_words(a: Answer) -> [u32; 2]
         Answer::No => [4, 0],
         Answer::None => [5, 0],
         Answer::Got { weight } => [6, weight],
-        Answer::Refused { number } => [7, number],
+        Answer::Refused { reason } => [7, reason.number()],
     }
 }
 
-// The number of a refusal, 0 of any other answer.
-fn refusal_in(a: Answer) -> u32
-    ensures { result ≡ number_of a }
+// What a step leaves, put into an image and an answer where it is taken: the number that the call returns to C, its own first.
+fn put_done(state: &mut [u32], answer: &mut [u32], refused: Option<CallRefusal>, done: Done) -> u32
+    ensures { (result ≡ number_called refused (number_of done.answer)) × (state.new ≡ left result (placed state.old 0 (words_of done.machine)) state.old) × (answer.new ≡ left result (placed answer.old 0 (answer_words done.answer)) answer.old) }
 {
-    let words = answer_words(a);
-    if words[0] == 7 { words[1] } else { 0 }
-}
-
-// What a step leaves, put into an image and an answer where it is taken: the call's number, its own first.
-fn put_done(state: &mut [u32], answer: &mut [u32], number: u32, done: Done) -> u32
-    ensures { (result ≡ left number (number_of done.answer) number) × (state.new ≡ left result (placed state.old 0 (words_of done.machine)) state.old) × (answer.new ≡ left result (placed answer.old 0 (answer_words done.answer)) answer.old) }
-{
-    if 0 < number {
-        return number;
+    if let Some(why) = refused {
+        return why.number();
     }
     let said = done.answer;
-    let refused = refusal_in(said);
-    if 0 < refused {
-        return refused;
+    if let Answer::Refused { reason } = said {
+        return reason.number();
     }
     let next = done.machine;
     let image = words::words_of(next);
@@ -130,7 +139,7 @@ fn put_done(state: &mut [u32], answer: &mut [u32], number: u32, done: Done) -> u
 }
 
 // One step of the machine whose image is lent, for any image, list and step asked: 0 where it is taken, else the number that the call is
-// refused by. Only a taken one writes: the image, the list as the step leaves it, the two words of the answer.
+// refused by, since C has no Result. Only a taken one writes: the image, the list as the step leaves it, the two words of the answer.
 pub fn dentralupo_step(
     state: &mut [u32],
     writes: &mut [Write],
@@ -141,5 +150,5 @@ pub fn dentralupo_step(
 {
     let call = call_of(state, asked, answer.len());
     let done = machine::step(call.machine, writes, call.step);
-    put_done(state, answer, call.number, done)
+    put_done(state, answer, call.refused, done)
 }

@@ -6,7 +6,7 @@ ghost use Rattle.outside.specs.Call.{lent, called};
 
 use writes::Write;
 
-// `outside::dentralupo_step`, by that name.
+// `outside::dentralupo_step`, by that name: a crate is a library, which others prove on, or a static library.
 #[unsafe(no_mangle)]
 pub extern "C" fn dentralupo_step(
     state: &mut [u32],

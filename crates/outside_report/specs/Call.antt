@@ -1,20 +1,13 @@
 -- What one call leaves in what it is lent, and what it returns. Assumes nothing.
-use Rattle.std.specs.Prelude.{List, ℕ}
+use Rattle.std.specs.Prelude.{List, ℕ, Option, Some, None, unwrap_or}
 use Rattle.number.specs.Buffer.{placed, put_at}
-use Rattle.number.specs.declared.Written.{Written}
-use Rattle.number.specs.declared.Written.TheVariants.{Next, Short}
 use Rattle.printed.specs.Printed.{Page, page, printed_text, put_lines}
 use Rattle.reported.specs.Report.{reported}
 
--- how many bytes were put
-abbrev pub end_of : Written → ℕ
-end_of (Next n) = n
-end_of Short = 0
-
 -- the paper's number: 15 where the room was too short, else the one given
-abbrev pub number_or : Written → ℕ → ℕ
-number_or (Next p) n = n
-number_or Short n = 15
+abbrev pub number_or : Option ℕ → ℕ → ℕ
+number_or (Some p) n = n
+number_or None n = 15
 
 pub record Lent : Type 0 where
   pub number : ℕ
@@ -26,11 +19,12 @@ pub record Lent : Type 0 where
 abbrev pub lent : ℕ → List ℕ → ℕ → List ℕ → ℕ → Lent
 lent n a i b j = record { number = n; first = a; stop = i; rest = b; upto = j }
 
--- The first line is put into one buffer and the others into another, line by line up to one that has no room.
-abbrev pub left_by : Written → List ℕ → Page → Lent
-left_by w a p = lent (number_or w (number_or p.upto 0)) a (end_of w) p.buffer (end_of p.upto)
+-- The first line is put into one buffer and the others into another, line by line up to one that has no room; of each buffer, how many
+-- bytes were put, 0 where it was too short.
+abbrev pub left_by : Option ℕ → List ℕ → Page → Lent
+left_by w a p = lent (number_or w (number_or p.upto 0)) a (unwrap_or w 0) p.buffer (unwrap_or p.upto 0)
 
 unfoldable pub called : List ℕ → List ℕ → List ℕ → Lent
 called s a b =
     let x = reported s in
-    left_by (put_at a 0 (printed_text x.first)) (placed a 0 (printed_text x.first)) (put_lines (page (Next 0) b) x.rest)
+    left_by (put_at a 0 (printed_text x.first)) (placed a 0 (printed_text x.first)) (put_lines (page (Some 0) b) x.rest)

@@ -2,29 +2,14 @@
 #![tactic(auto)]
 
 ghost use Rattle.std.specs.Prelude.{◌≡◌};
-ghost use Rattle.outside_report.specs.Call.{called, end_of, lent, number_or};
+ghost use Rattle.outside_report.specs.Call.{called, lent, number_or};
 ghost use Rattle.outside_report.specs.Promise.{CallWhole};
 
-use number::Written;
-
-// How many bytes were put into a buffer: 0 where it was too short.
-fn end_of(upto: Written) -> usize
-    ensures { result ≡ end_of upto }
-{
-    match upto {
-        Written::Next(n) => n,
-        Written::Short => 0,
-    }
-}
-
-// The paper's number: 15 where a buffer was too short, else the one given.
-fn number_or(upto: Written, n: u32) -> u32
+// The paper's number, which the call returns to C: 15 where a buffer was too short, else the one given.
+fn number_or(upto: Option<usize>, n: u32) -> u32
     ensures { result ≡ number_or upto n }
 {
-    match upto {
-        Written::Next(_) => n,
-        Written::Short => 15,
-    }
+    if upto.is_some() { n } else { 15 }
 }
 
 // The report of any text: its first line in `first`, the other lines in `rest`, and how many bytes each then has of it. 0 is returned, or
@@ -43,8 +28,8 @@ pub fn dentralupo_report(
     let line = r.first;
     let others = r.upto;
     let put = printed::put_printed(first, 0, line);
-    *stop = end_of(put);
-    *upto = end_of(others);
+    *stop = put.unwrap_or(0);
+    *upto = others.unwrap_or(0);
     let n = number_or(others, 0);
     number_or(put, n)
 }

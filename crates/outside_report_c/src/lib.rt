@@ -5,7 +5,7 @@ ghost use Rattle.std.specs.Prelude.{◌≡◌};
 ghost use Rattle.outside_report.specs.Call.{called, lent};
 ghost use Rattle.outside_report.specs.Promise.{CallWhole};
 
-// `outside_report::dentralupo_report`, by that name.
+// `outside_report::dentralupo_report`, by that name: a crate is a library, which others prove on, or a static library.
 #[unsafe(no_mangle)]
 pub extern "C" fn dentralupo_report(
     text: &[u8],

@@ -1,10 +1,6 @@
 -- Any two results that a public contract allows are equal. Assumes nothing.
 use Rattle.laws.proofs.Determined.{determined, OneResult}
-use Rattle.parts.proofs.name_in.Reads as name_in
 use Rattle.parts.proofs.parts_stand.Reads as parts_stand
-
-pub name_in-determined : OneResult name_in.Post
-name_in-determined κs a x y e f = determined
 
 pub parts_stand-determined : OneResult parts_stand.Post
 parts_stand-determined κs a x y e f = determined

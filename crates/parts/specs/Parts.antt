@@ -1,8 +1,6 @@
 -- What the parts of a state must be so that it can stand. Assumes nothing.
 use Rattle.std.specs.Prelude.{Bool, ℕ, ◌+◌, ◌*◌, leb}
 use Rattle.laws.specs.Tests.{◌and◌, all_below}
-use Rattle.parts.specs.declared.Family.{Family}
-use Rattle.parts.specs.declared.Family.TheVariants.{Flags, Statuses}
 use Rattle.places.specs.Places.{place_stands}
 use Rattle.state.specs.State.{cells_of, row, place, atomic_at, first_of}
 use Rattle.state.specs.declared.Atomic.{Atomic}
@@ -27,20 +25,16 @@ firsts_stand m = all_below (λ i. leb (first_of m i) most) m.shape.plain
 unfoldable pub atomic_stands : ℕ → ℕ → Atomic → Bool
 atomic_stands k high a = leb a.value high and view_stands k a.view
 
-abbrev pub name_in : Family → ℕ → Name
-name_in Flags i = Flag i
-name_in Statuses i = Status i
-
 unfoldable pub atomics_stand : Machine → (ℕ → Name) → ℕ → ℕ → Bool
 atomics_stand m name n high = all_below (λ i. atomic_stands (cells_of m) high (atomic_at m (name i))) n
 
 -- head and tail at most the steps taken; every status at most 2(steps + C) + 1; every flag's value in range
 unfoldable pub cells_stand : Machine → Bool
 cells_stand m =
-    atomics_stand m (name_in Flags) m.shape.flags most
+    atomics_stand m Flag m.shape.flags most
     and (atomic_stands (cells_of m) m.steps m.head
     and (atomic_stands (cells_of m) m.steps m.tail
-    and atomics_stand m (name_in Statuses) m.shape.slots (2 * (m.steps + m.shape.slots) + 1)))
+    and atomics_stand m Status m.shape.slots (2 * (m.steps + m.shape.slots) + 1)))
 
 unfoldable pub parts_stand : Machine → Bool
 parts_stand m = threads_stand m and (firsts_stand m and cells_stand m)

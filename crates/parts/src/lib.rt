@@ -2,7 +2,7 @@
 #![tactic(auto)]
 
 ghost use Rattle.std.specs.Prelude.{◌≡◌};
-ghost use Rattle.parts.specs.Parts.{thread_stands, threads_stand, firsts_stand, atomic_stands, name_in, atomics_stand, parts_stand};
+ghost use Rattle.parts.specs.Parts.{thread_stands, threads_stand, firsts_stand, atomic_stands, atomics_stand, parts_stand};
 
 use laws::both;
 use state::{Atomic, Machine, Name};
@@ -19,32 +19,15 @@ fn thread_stands(m: Machine, i: usize) -> bool
 fn threads_stand(m: Machine) -> bool
     ensures { result ≡ threads_stand m }
 {
-    let shape = m.shape;
-    let n = shape.threads as usize;
-    let mut i: usize = 0;
-    while i < n {
-        let ok = thread_stands(m, i);
-        if !ok {
-            return false;
-        }
-        i += 1;
-    }
-    true
+    let n = m.shape.threads as usize;
+    (0..n).all(|i| thread_stands(m, i))
 }
 
 fn firsts_stand(m: Machine) -> bool
     ensures { result ≡ firsts_stand m }
 {
-    let shape = m.shape;
-    let n = shape.plain as usize;
-    let mut i: usize = 0;
-    while i < n {
-        if MOST < state::first_of(m, i) {
-            return false;
-        }
-        i += 1;
-    }
-    true
+    let n = m.shape.plain as usize;
+    (0..n).all(|i| state::first_of(m, i) <= MOST)
 }
 
 fn atomic_stands(a: Atomic, k: usize, most: usize) -> bool
@@ -54,35 +37,13 @@ fn atomic_stands(a: Atomic, k: usize, most: usize) -> bool
     both((a.value as usize) <= most, seen)
 }
 
-// The atomic cells that there are several of.
-#[derive(Clone, Copy)]
-pub enum Family {
-    Flags,
-    Statuses,
-}
-
-pub fn name_in(family: Family, i: usize) -> Name
-    ensures { result ≡ name_in family i }
-{
-    match family {
-        Family::Flags => Name::Flag(i),
-        Family::Statuses => Name::Status(i),
-    }
-}
-
-fn atomics_stand(m: Machine, family: Family, n: usize, most: usize) -> bool
-    ensures { result ≡ atomics_stand m (name_in family) n most }
+// The first n atomic cells that a function names.
+fn atomics_stand<F: Fn(usize) -> Name>(m: Machine, name: F, n: usize, most: usize) -> bool
+    requires { (f : F) (i : _) → F.pre f i }
+    ensures { (g : _) → ((i : _) (a : Name) → F.post name i a → a ≡ g i) → result ≡ atomics_stand m g n most }
 {
     let k = state::cells_of(m);
-    let mut i: usize = 0;
-    while i < n {
-        let ok = atomic_stands(state::atomic_of(m, name_in(family, i)), k, most);
-        if !ok {
-            return false;
-        }
-        i += 1;
-    }
-    true
+    (0..n).all(|i| atomic_stands(state::atomic_of(m, name(i)), k, most))
 }
 
 // Every noted rank and weight, first value, view and atomic cell is in range.
@@ -92,11 +53,11 @@ pub fn parts_stand(m: Machine) -> bool
     let shape = m.shape;
     let k = state::cells_of(m);
     let steps = m.steps as usize;
-    let flags = atomics_stand(m, Family::Flags, shape.flags as usize, MOST as usize);
+    let flags = atomics_stand(m, Name::Flag, shape.flags as usize, MOST as usize);
     let head = atomic_stands(m.head, k, steps);
     let tail = atomic_stands(m.tail, k, steps);
     let highest = 2 * (steps + (shape.slots as usize)) + 1;
-    let statuses = atomics_stand(m, Family::Statuses, shape.slots as usize, highest);
+    let statuses = atomics_stand(m, Name::Status, shape.slots as usize, highest);
     let cells = both(flags, both(head, both(tail, statuses)));
     both(threads_stand(m), both(firsts_stand(m), cells))
 }

@@ -4,6 +4,8 @@ use Rattle.laws.specs.Tests.{◌and◌}
 use Rattle.state.specs.declared.Place.{Place}
 use Rattle.state.specs.declared.Place.TheVariants.{Idle, PutStatus, PutSwap, PutWrite, PutPublish, TakeStatus, TakeSwap, TakeRead, TakeFree}
 use Rattle.step.specs.Limit.{most}
+use Rattle.step.specs.declared.LineKind.{LineKind}
+use Rattle.step.specs.declared.LineKind.TheVariants.{Begins, Goes, GoesAt}
 
 -- the rank that a place notes, 0 where it notes none
 abbrev pub rank_of : Place → ℕ
@@ -34,13 +36,13 @@ unfoldable pub place_stands : ℕ → Place → Bool
 place_stands steps p = leb (rank_of p) steps and leb (weight_of p) most
 
 -- which kind of line is due at a place
-abbrev pub due_at : Place → ℕ
-due_at Idle = 0
-due_at (PutStatus h w) = 1
-due_at (PutSwap h w) = 1
-due_at (PutWrite h w) = 2
-due_at (PutPublish h) = 1
-due_at (TakeStatus t) = 1
-due_at (TakeSwap t) = 1
-due_at (TakeRead t) = 2
-due_at (TakeFree t w) = 1
+abbrev pub due_at : Place → LineKind
+due_at Idle = Begins
+due_at (PutStatus h w) = Goes
+due_at (PutSwap h w) = Goes
+due_at (PutWrite h w) = GoesAt
+due_at (PutPublish h) = Goes
+due_at (TakeStatus t) = Goes
+due_at (TakeSwap t) = Goes
+due_at (TakeRead t) = GoesAt
+due_at (TakeFree t w) = Goes

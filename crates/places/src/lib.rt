@@ -6,7 +6,7 @@ ghost use Rattle.places.specs.Places.{rank_of, weight_of, place_stands, due_at};
 
 use laws::both;
 use state::Place;
-use step::MOST;
+use step::{LineKind, MOST};
 
 // The rank that a place notes, and 0 where it notes none.
 pub fn rank_of(p: Place) -> u32
@@ -14,14 +14,14 @@ pub fn rank_of(p: Place) -> u32
 {
     match p {
         Place::Idle => 0,
-        Place::PutStatus { rank, weight: _ } => rank,
-        Place::PutSwap { rank, weight: _ } => rank,
-        Place::PutWrite { rank, weight: _ } => rank,
-        Place::PutPublish { rank } => rank,
-        Place::TakeStatus { rank } => rank,
-        Place::TakeSwap { rank } => rank,
-        Place::TakeRead { rank } => rank,
-        Place::TakeFree { rank, weight: _ } => rank,
+        Place::PutStatus { rank, .. }
+        | Place::PutSwap { rank, .. }
+        | Place::PutWrite { rank, .. }
+        | Place::PutPublish { rank }
+        | Place::TakeStatus { rank }
+        | Place::TakeSwap { rank }
+        | Place::TakeRead { rank }
+        | Place::TakeFree { rank, .. } => rank,
     }
 }
 
@@ -30,15 +30,11 @@ fn weight_of(p: Place) -> u32
     ensures { result ≡ weight_of p }
 {
     match p {
-        Place::Idle => 0,
-        Place::PutStatus { rank: _, weight } => weight,
-        Place::PutSwap { rank: _, weight } => weight,
-        Place::PutWrite { rank: _, weight } => weight,
-        Place::PutPublish { rank: _ } => 0,
-        Place::TakeStatus { rank: _ } => 0,
-        Place::TakeSwap { rank: _ } => 0,
-        Place::TakeRead { rank: _ } => 0,
-        Place::TakeFree { rank: _, weight } => weight,
+        Place::PutStatus { weight, .. }
+        | Place::PutSwap { weight, .. }
+        | Place::PutWrite { weight, .. }
+        | Place::TakeFree { weight, .. } => weight,
+        _ => 0,
     }
 }
 
@@ -50,18 +46,12 @@ pub fn place_stands(p: Place, steps: u32) -> bool
 }
 
 // Which kind of line is due at a place.
-pub fn due_at(p: Place) -> u32
+pub fn due_at(p: Place) -> LineKind
     ensures { result ≡ due_at p }
 {
     match p {
-        Place::Idle => 0,
-        Place::PutStatus { rank: _, weight: _ } => 1,
-        Place::PutSwap { rank: _, weight: _ } => 1,
-        Place::PutWrite { rank: _, weight: _ } => 2,
-        Place::PutPublish { rank: _ } => 1,
-        Place::TakeStatus { rank: _ } => 1,
-        Place::TakeSwap { rank: _ } => 1,
-        Place::TakeRead { rank: _ } => 2,
-        Place::TakeFree { rank: _, weight: _ } => 1,
+        Place::Idle => LineKind::Begins,
+        Place::PutWrite { .. } | Place::TakeRead { .. } => LineKind::GoesAt,
+        _ => LineKind::Goes,
     }
 }

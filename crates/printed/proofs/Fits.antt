@@ -8,11 +8,11 @@ use mathlib.Core.Path.{◌∙◌, ◌≡◌, ap, refl, sym}
 use native.Mathlib.Nat.{add-zero}
 use native.Mathlib.Omega.{arith}
 use borrow.Author.Tests.{le-leb}
+use Rattle.std.specs.Prelude.{Some}
 use Rattle.number.proofs.Decimal.{length_pow, length_weight}
 use Rattle.number.proofs.Stores.{put_done, sets_append}
 use Rattle.number.specs.Buffer.{room}
 use Rattle.number.specs.Text.{number_text, weight_text}
-use Rattle.number.specs.declared.Written.TheVariants.{Next}
 use Rattle.printed.proofs.Laws.{length_ended, length_three, length_two, spelled_short}
 use Rattle.printed.specs.Printed.{answer_line, field_text, lines_text, page, printed_text, put_lines, spelled}
 use Rattle.printed.specs.declared.Field.{Field}
@@ -31,16 +31,16 @@ room_for l at n h = le-leb _ _ h
 
 -- lines that have room are put whole
 pub put_whole : (xs : List Printed) (l : List ℕ) (at : ℕ) → at + length (lines_text xs) ≤ length l
-    → put_lines (page (Next at) l) xs ≡ page (Next (at + length (lines_text xs))) (sets l at (lines_text xs))
+    → put_lines (page (Some at) l) xs ≡ page (Some (at + length (lines_text xs))) (sets l at (lines_text xs))
 unfolding put_lines lines_text
-put_whole [] l at h = ap (λ (p : ℕ). page (Next p) l) (sym (add-zero at))
+put_whole [] l at h = ap (λ (p : ℕ). page (Some p) l) (sym (add-zero at))
 put_whole (x ∷ xs) l at h =
     let t = printed_text x in
     let more = length-append t (lines_text xs) in
     let put = put_done {l = l} {at = at} {t = t} (room_for l at (length t) (omega (arith, more))) (record { next = refl; list = refl }) in
     rw (← put.0, ← put.1, more, sets_append t (lines_text xs) l at)
     (put_whole xs (sets l at t) (at + length t) (omega (arith, more, length-sets l at t))
-    ∙ ap (λ (p : ℕ). page (Next p) (sets (sets l at t) (at + length t) (lines_text xs))) (omega arith))
+    ∙ ap (λ (p : ℕ). page (Some p) (sets (sets l at t) (at + length t) (lines_text xs))) (omega arith))
 
 pub lines_append : (xs ys : List Printed) → length (lines_text (xs ++ ys)) ≡ length (lines_text xs) + length (lines_text ys)
 unfolding lines_text

@@ -1,12 +1,11 @@
 -- The lines that a program prints, and their texts. Assumes nothing.
-use Rattle.std.specs.Prelude.{ℕ, List, [], ◌∷◌, ◌++◌}
+use Rattle.std.specs.Prelude.{ℕ, List, [], ◌∷◌, ◌++◌, Option, Some, None}
 use Rattle.number.specs.Buffer.{put_at, placed}
 use Rattle.number.specs.Bytes.{bytes}
 use Rattle.number.specs.Text.{number_text, weight_text}
-use Rattle.number.specs.declared.Written.{Written}
-use Rattle.number.specs.declared.Written.TheVariants.{Next, Short}
+use Rattle.step.specs.Reason.{number}
 use Rattle.step.specs.declared.Answer.{Answer}
-use Rattle.step.specs.declared.Answer.TheVariants.{Dash, Ok, Value, Yes, No, None, Got, Refused}
+use Rattle.step.specs.declared.Answer.TheVariants as answer
 use Rattle.printed.specs.declared.Word.{Word}
 use Rattle.printed.specs.declared.Word.TheVariants as word
 use Rattle.printed.specs.declared.Field.{Field}
@@ -43,14 +42,14 @@ printed_text (Three a b c) = ended_text a 32 ++ (ended_text b 32 ++ ended_text c
 -- "thread and answer of each taken step (`ok` for set and store; a value for get and load; yes or no for swap and put; none or got with
 -- a weight for take)"; "rank and the weight .., else rank and `-`"
 unfoldable pub answer_line : ℕ → Answer → Printed
-answer_line n Dash = Two (Counts n) (Says word.Dash)
-answer_line n Ok = Two (Counts n) (Says word.Ok)
-answer_line n (Value v) = Two (Counts n) (Weighs v)
-answer_line n Yes = Two (Counts n) (Says word.Yes)
-answer_line n No = Two (Counts n) (Says word.No)
-answer_line n None = Two (Counts n) (Says word.None)
-answer_line n (Got w) = Three (Counts n) (Says word.Got) (Weighs w)
-answer_line n (Refused k) = Two (Counts n) (Counts k)
+answer_line n answer.Dash = Two (Counts n) (Says word.Dash)
+answer_line n answer.Ok = Two (Counts n) (Says word.Ok)
+answer_line n (answer.Value v) = Two (Counts n) (Weighs v)
+answer_line n answer.Yes = Two (Counts n) (Says word.Yes)
+answer_line n answer.No = Two (Counts n) (Says word.No)
+answer_line n answer.None = Two (Counts n) (Says word.None)
+answer_line n (answer.Got w) = Three (Counts n) (Says word.Got) (Weighs w)
+answer_line n (answer.Refused r) = Two (Counts n) (Counts (number r))
 
 -- the text of lines: one after the other
 unfoldable pub lines_text : List Printed → List ℕ
@@ -58,20 +57,20 @@ lines_text [] = []
 lines_text (x ∷ xs) = printed_text x ++ lines_text xs
 
 -- a line put into a buffer after those before it: the place after it, and the buffer; after a line that had no room there is none
-abbrev pub put_next : List ℕ → Written → Printed → Written
-put_next l (Next p) x = put_at l p (printed_text x)
-put_next l Short x = Short
+abbrev pub put_next : List ℕ → Option ℕ → Printed → Option ℕ
+put_next l (Some p) x = put_at l p (printed_text x)
+put_next l None x = None
 
-abbrev pub placed_next : List ℕ → Written → Printed → List ℕ
-placed_next l (Next p) x = placed l p (printed_text x)
-placed_next l Short x = l
+abbrev pub placed_next : List ℕ → Option ℕ → Printed → List ℕ
+placed_next l (Some p) x = placed l p (printed_text x)
+placed_next l None x = l
 
 -- lines put one after the other, up to the first that has no room: the place after them, and the buffer
 pub record Page : Type 0 where
-  pub upto : Written
+  pub upto : Option ℕ
   pub buffer : List ℕ
 
-abbrev pub page : Written → List ℕ → Page
+abbrev pub page : Option ℕ → List ℕ → Page
 page w l = record { upto = w; buffer = l }
 
 unfoldable pub put_lines : Page → List Printed → Page

@@ -3,10 +3,8 @@
 
 ghost use Rattle.std.specs.Prelude.{◌≡◌, ◌+◌, ◌≤◌, length};
 ghost use Rattle.number.specs.Buffer.{put_at, placed, Wrote};
-ghost use Rattle.form.specs.Text.{word_text};
 ghost use Rattle.printed.specs.Printed.{spelled, field_text, ended_text, printed_text, answer_line, put_next, placed_next};
 
-use number::Written;
 use step::Answer;
 
 // The words of a report.
@@ -39,53 +37,39 @@ pub enum Printed {
     Three(Field, Field, Field),
 }
 
-// The letters of a word, filled up with 0.
-fn letters(w: Word) -> [u8; 7]
-    ensures { word_text result ≡ spelled w }
+// The letters of a word. No `Display`: what is written goes into a lent buffer, byte for byte by an equation.
+fn letters(w: Word) -> &'static [u8]
+    ensures { result.now ≡ spelled w }
 {
     match w {
-        Word::Answers => *b"answers",
-        Word::Queue => *b"queue\0\0",
-        Word::Refused => *b"refused",
-        Word::Text => *b"text\0\0\0",
-        Word::Dash => *b"-\0\0\0\0\0\0",
-        Word::Ok => *b"ok\0\0\0\0\0",
-        Word::Yes => *b"yes\0\0\0\0",
-        Word::No => *b"no\0\0\0\0\0",
-        Word::None => *b"none\0\0\0",
-        Word::Got => *b"got\0\0\0\0",
+        Word::Answers => b"answers",
+        Word::Queue => b"queue",
+        Word::Refused => b"refused",
+        Word::Text => b"text",
+        Word::Dash => b"-",
+        Word::Ok => b"ok",
+        Word::Yes => b"yes",
+        Word::No => b"no",
+        Word::None => b"none",
+        Word::Got => b"got",
     }
-}
-
-fn word_width(w: Word) -> usize
-    ensures { result ≡ length (spelled w) }
-{
-    let word = letters(w);
-    measure::word_width(&word)
-}
-
-fn put_word(buf: &mut [u8], at: usize, w: Word) -> Written
-    ensures { (result ≡ put_at buf.old at (spelled w)) × (buf.new ≡ placed buf.old at (spelled w)) }
-{
-    let word = letters(w);
-    writer::put_word(buf, at, &word)
 }
 
 fn field_width(f: Field) -> usize
     ensures { (result ≡ length (field_text f)) × (result ≤ 20) }
 {
     match f {
-        Field::Says(w) => word_width(w),
+        Field::Says(w) => letters(w).len(),
         Field::Counts(n) => number::number_width(n),
         Field::Weighs(v) => number::weight_width(v as u64),
     }
 }
 
-fn put_field(buf: &mut [u8], at: usize, f: Field) -> Written
+fn put_field(buf: &mut [u8], at: usize, f: Field) -> Option<usize>
     ensures { (result ≡ put_at buf.old at (field_text f)) × (buf.new ≡ placed buf.old at (field_text f)) }
 {
     match f {
-        Field::Says(w) => put_word(buf, at, w),
+        Field::Says(w) => number::put_bytes(buf, at, letters(w)),
         Field::Counts(n) => number::put_number(buf, at, n),
         Field::Weighs(v) => number::put_weight(buf, at, v as u64),
     }
@@ -96,10 +80,8 @@ fn write_ended(buf: &mut [u8], at: usize, f: Field, b: u8) -> usize
     requires { at + length (ended_text f b) ≤ length buf.old }
     ensures { Wrote buf.old at (ended_text f b) result buf.new }
 {
-    let w = put_field(buf, at, f);
-    let p = writer::next_or(at, w);
-    let e = number::put_byte(buf, p, b);
-    writer::next_or(p, e)
+    let p = put_field(buf, at, f).unwrap_or(at);
+    number::put_byte(buf, p, b).unwrap_or(p)
 }
 
 fn printed_width(line: Printed) -> usize
@@ -131,24 +113,22 @@ fn write_printed(buf: &mut [u8], at: usize, line: Printed) -> usize
     }
 }
 
-// A line at a place of a lent buffer.
-pub fn put_printed(buf: &mut [u8], at: usize, line: Printed) -> Written
+// A line at a place of a lent buffer, by a test as `put_bytes` (number).
+pub fn put_printed(buf: &mut [u8], at: usize, line: Printed) -> Option<usize>
     ensures { (result ≡ put_at buf.old at (printed_text line)) × (buf.new ≡ placed buf.old at (printed_text line)) }
 {
     if number::has_room(buf, at, printed_width(line)) {
-        return Written::Next(write_printed(buf, at, line));
+        Some(write_printed(buf, at, line))
+    } else {
+        None
     }
-    Written::Short
 }
 
 // A line after those that were put before it; after one that had no room there is none.
-pub fn put_next(buf: &mut [u8], upto: Written, line: Printed) -> Written
+pub fn put_next(buf: &mut [u8], upto: Option<usize>, line: Printed) -> Option<usize>
     ensures { (result ≡ put_next buf.old upto line) × (buf.new ≡ placed_next buf.old upto line) }
 {
-    match upto {
-        Written::Next(p) => put_printed(buf, p, line),
-        Written::Short => Written::Short,
-    }
+    put_printed(buf, upto?, line)
 }
 
 // A thread or a rank, and what it is answered.
@@ -166,6 +146,6 @@ pub fn answer_line(n: u32, a: Answer) -> Printed
         Answer::Got { weight } => {
             Printed::Three(first, Field::Says(Word::Got), Field::Weighs(weight))
         }
-        Answer::Refused { number } => Printed::Two(first, Field::Counts(number as u64)),
+        Answer::Refused { reason } => Printed::Two(first, Field::Counts(reason.number() as u64)),
     }
 }

@@ -4,6 +4,7 @@ use mathlib.Core.Bool.{false}
 use mathlib.Core.List.{List}
 use Prim.Native.Nat.{ℕ, ◌-◌}
 use lib.ListN.{length}
+use Rattle.std.specs.Prelude.{None}
 use Rattle.accesses.specs.Accesses.{outdated, amiss}
 use Rattle.refusal.proofs.Passed.{Passed, passed, unrefused}
 use Rattle.rules.specs.Access.{found_by}
@@ -32,13 +33,13 @@ module _ (m : Machine) (ws : List Write) (s : Step) where
   passes A = record { stands = A.stand; steps = A.steps; thread = A.thread; due = A.due; names = A.cell; range = A.range; room = A.room }
 
   -- what holds of a step that is taken
-  pub admitted : refusal_of m ws s ≡ 0 → Admitted m ws s × Fits m ws (s.thread - 1) (asked m s)
+  pub admitted : refusal_of m ws s ≡ None → Admitted m ws s × Fits m ws (s.thread - 1) (asked m s)
   unfolding refusal_of
   admitted e =
       let p = passed (stands m ws) m (length ws) s (asked m s) (found_by m ws (asked m s)) e in
       (admits p.0, p.1)
 
   -- and back
-  pub taken_if : Admitted m ws s → Fits m ws (s.thread - 1) (asked m s) → refusal_of m ws s ≡ 0
+  pub taken_if : Admitted m ws s → Fits m ws (s.thread - 1) (asked m s) → refusal_of m ws s ≡ None
   unfolding refusal_of
   taken_if A F = unrefused (stands m ws) m (length ws) s (asked m s) (found_by m ws (asked m s)) (passes A) F

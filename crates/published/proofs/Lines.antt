@@ -1,9 +1,9 @@
 -- Each line of a schedule makes one event of its code, at the thread's place. Assumes nothing.
-use mathlib.Core.Path.{◌≡◌, refl, ap}
+use mathlib.Core.Path.{◌≡◌, refl}
 use mathlib.Core.Bool.{Bool, true, false}
 use mathlib.Core.List.{List}
-use mathlib.Core.Logic.{inl, inr}
-use Prim.Native.Nat.{ℕ, ◌+◌, ◌-◌, ◌*◌, ◌<◌, ◌≤◌}
+use mathlib.Core.Logic.{◌≢◌, inl, inr}
+use Prim.Native.Nat.{ℕ, ◌+◌, ◌-◌, ◌*◌, ◌<◌}
 use native.Mathlib.Omega.{arith}
 use native.Mathlib.Nat.{mod-lt}
 use borrow.Author.Tests.{leb-false, ltb-false, eqb-true, eqb-false}
@@ -12,7 +12,7 @@ use lib.ListN.{length}
 use Rattle.accesses.specs.Accesses.{full}
 use Rattle.atomic.specs.Atomic.{read_atomic, swap_if, swapped_of}
 use Rattle.places.specs.Places.{due_at}
-use Rattle.rules.proofs.Moves.{shown, hidden}
+use Rattle.rules.proofs.Access.{shown, hidden}
 use Rattle.rules.specs.Access.{slot_cell, access_of, found_by, accessed}
 use Rattle.rules.specs.Calls.{ends, goes_on, looks, won_to, swaps, closes, resumed, won_answer, acted}
 use Rattle.rules.specs.Step.{value_of, counted}
@@ -52,15 +52,15 @@ module _ (m : Machine) (ws : List Write) (i : ℕ) (W : Whole m) (B : Bounds m.s
   over a = inl (refl, refl)
 
   -- a call goes on
-  on : (p : Place) → 1 ≤ due_at p → Left m.shape p Dash (rest_of m.shape p)
-  on p h = inr ((λ e. omega (arith, ap due_at e)), refl, refl)
+  on : (p : Place) → p ≢ Idle → Left m.shape p Dash (rest_of m.shape p)
+  on p n = inr (n, refl, refl)
 
   -- the status of a rank is there
   slotted : (j : ℕ) → Has m.shape (status m.shape j)
   slotted j = mod-lt j B.some_slot
 
   -- second of a call
-  looked : (j due t : ℕ) (p : Place) (lost : Answer) → 1 ≤ due_at p
+  looked : (j due t : ℕ) (p : Place) (lost : Answer) → p ≢ Idle
       → Runs (reads_at (status m.shape j) (λ x. if_code (eqb x due) (rest_of m.shape p) (answers lost))) t (looks m i j due p lost) ws
   unfolding looks goes_on slot_of
   looked j due t p lost h = go (eqb (atomic_at m (status m.shape j)).value due) refl
@@ -72,7 +72,7 @@ module _ (m : Machine) (ws : List Write) (i : ℕ) (W : Whole m) (B : Bounds m.s
       go false e = read_atomic_lem m ws i W B l k _ t _ Idle lost (slotted j) (rw e (over lost))
 
   -- third of a call
-  swapped : (A : Name) (j t : ℕ) (p : Place) (lost : Answer) → Has m.shape A → 1 ≤ due_at p
+  swapped : (A : Name) (j t : ℕ) (p : Place) (lost : Answer) → Has m.shape A → p ≢ Idle
       → Runs (swaps_at A j (j + 1) (rest_of m.shape p) (answers lost)) t (swaps m i A j p lost) ws
   unfolding swaps goes_on swapped_of next_rank
   swapped A j t p lost room h = go (eqb (atomic_at m A).value j) refl
@@ -131,24 +131,16 @@ module _ (m : Machine) (ws : List Write) (i : ℕ) (W : Whole m) (B : Bounds m.s
   by_verb (Load x) p e d n f o = read_atomic_lem m ws i W B l k (Flag (x - 1)) 0 _ Idle _ (flagged x n) (over _)
   by_verb (Store x v) p e d n f o = write_atomic_lem m ws i W B l k (Flag (x - 1)) 0 v _ Idle Ok (flagged x n) (over Ok)
   by_verb (Swap x u v) p e d n f o = exchanged (Flag (x - 1)) u v 0 (flagged x n)
-  by_verb (Put w) p e d n f o = read_atomic_lem m ws i W B l k Head 0 _ _ Dash tt (on (PutStatus m.head.value w) (omega arith))
-  by_verb Take p e d n f o = read_atomic_lem m ws i W B l k Tail 0 _ _ Dash tt (on (TakeStatus m.tail.value) (omega arith))
-  by_verb Go Idle e d n f o = absurd (omega arith)
-  by_verb Go (PutStatus h w) e d n f o = rw e (looked h (2 * h) 0 (PutSwap h w) No (omega arith))
-  by_verb Go (PutSwap h w) e d n f o = rw e (swapped Head h 0 (PutWrite h w) No tt (omega arith))
-  by_verb Go (PutWrite h w) e d n f o = absurd (omega arith)
+  by_verb (Put w) p e d n f o = read_atomic_lem m ws i W B l k Head 0 _ _ Dash tt (on (PutStatus m.head.value w) (λ x. cc))
+  by_verb Take p e d n f o = read_atomic_lem m ws i W B l k Tail 0 _ _ Dash tt (on (TakeStatus m.tail.value) (λ x. cc))
+  by_verb Go (PutStatus h w) e d n f o = rw e (looked h (2 * h) 0 (PutSwap h w) No (λ x. cc))
+  by_verb Go (PutSwap h w) e d n f o = rw e (swapped Head h 0 (PutWrite h w) No tt (λ x. cc))
   by_verb Go (PutPublish h) e d n f o = rw e (closed h (2 * h + 1) 0 Yes)
-  by_verb Go (TakeStatus t) e d n f o = rw e (looked t (2 * t + 1) 0 (TakeSwap t) None (omega arith))
-  by_verb Go (TakeSwap t) e d n f o = rw e (swapped Tail t 0 (TakeRead t) None tt (omega arith))
-  by_verb Go (TakeRead t) e d n f o = absurd (omega arith)
+  by_verb Go (TakeStatus t) e d n f o = rw e (looked t (2 * t + 1) 0 (TakeSwap t) None (λ x. cc))
+  by_verb Go (TakeSwap t) e d n f o = rw e (swapped Tail t 0 (TakeRead t) None tt (λ x. cc))
   by_verb Go (TakeFree t w) e d n f o = rw e (closed t (2 * (t + m.shape.slots)) 0 (Got w))
-  by_verb (GoAt z) Idle e d n f o = absurd (omega arith)
-  by_verb (GoAt z) (PutStatus h w) e d n f o = absurd (omega arith)
-  by_verb (GoAt z) (PutSwap h w) e d n f o = absurd (omega arith)
+  by_verb Go p e d n f o = absurd cc
   by_verb (GoAt z) (PutWrite h w) e d n f o =
-      rw (accessed_place m i (Writes (item m.shape h) z w) i, e) (stored (item m.shape h) z w _ (PutPublish h) Dash (itemed h) f o (on (PutPublish h) (omega arith)))
-  by_verb (GoAt z) (PutPublish h) e d n f o = absurd (omega arith)
-  by_verb (GoAt z) (TakeStatus t) e d n f o = absurd (omega arith)
-  by_verb (GoAt z) (TakeSwap t) e d n f o = absurd (omega arith)
-  by_verb (GoAt z) (TakeRead t) e d n f o = rw e (fetched (item m.shape t) z _ _ Dash (itemed t) o (on (TakeFree t _) (omega arith)))
-  by_verb (GoAt z) (TakeFree t w) e d n f o = absurd (omega arith)
+      rw (accessed_place m i (Writes (item m.shape h) z w) i, e) (stored (item m.shape h) z w _ (PutPublish h) Dash (itemed h) f o (on (PutPublish h) (λ x. cc)))
+  by_verb (GoAt z) (TakeRead t) e d n f o = rw e (fetched (item m.shape t) z _ _ Dash (itemed t) o (on (TakeFree t _) (λ x. cc)))
+  by_verb (GoAt z) p e d n f o = absurd cc

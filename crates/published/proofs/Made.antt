@@ -5,6 +5,7 @@ use mathlib.Core.Logic.{◌≢◌}
 use Prim.Native.Nat.{ℕ, ◌-◌, ◌<◌, ◌≤◌}
 use native.Mathlib.Omega.{arith}
 use lib.ListN.{length, get_or}
+use Rattle.std.specs.Prelude.{Some, None}
 use Rattle.laws.proofs.Lists.{set_length, set_here, set_else}
 use Rattle.atomic.specs.Atomic.{told, met, read_atomic, write_atomic}
 use Rattle.rules.specs.Access.{accessed}
@@ -28,7 +29,6 @@ use Rattle.view.specs.View.{stamp_of, with_stamp}
 use Rattle.writes.specs.History.{found}
 use Rattle.writes.specs.Records.{no_write, recorded}
 use Rattle.writes.specs.declared.Access.TheVariants.{Writes}
-use Rattle.writes.specs.declared.Found.TheVariants.{Missing, Present}
 use Rattle.writes.specs.declared.Write.{Write}
 
 -- thread i ran a code from a machine and a list; this was done, and left another list
@@ -84,13 +84,13 @@ module _ (m : Machine) (ws : List Write) (i : ℕ) (W : Whole m) (B : Bounds m.s
   gave_held A x = atomic_leaves (λ s h f vs ts. h) (read_atomic m i A) A (atomic x (told m i A))
 
   -- a plain read, a plain write
-  pub read_plain : (c t v : ℕ) (f : ℕ → Code) (p : Place) (a : Answer) → Loc m.shape c → found (first_of m (c - 1)) ws c t m.held ≡ Present v
+  pub read_plain : (c t v : ℕ) (f : ℕ → Code) (p : Place) (a : Answer) → Loc m.shape c → found (first_of m (c - 1)) ws c t m.held ≡ Some v
       → stamp_of (row m i) (c - 1) ≤ t → Left m.shape p a (f v) → Made m ws i (reads c f) t (counted k (ends m i p a)) ws
   read_plain c t v f p a o h b r =
       ended _ t _ (f v) m ws p a (read c f t v) (reads_plain m ws i W B l c t v o h b) r (record { threads = refl; rows = λ j o. refl }) (refl, refl)
 
   pub write_plain : (c t v : ℕ) (d : Code) (p : Place) (a : Answer) → Loc m.shape c → m.held < length ws
-      → found (first_of m (c - 1)) ws c t m.held ≡ Missing → stamp_of (row m i) (c - 1) < t → Left m.shape p a d
+      → found (first_of m (c - 1)) ws c t m.held ≡ None → stamp_of (row m i) (c - 1) < t → Left m.shape p a d
       → Made m ws i (writes c v d) t (counted k (ends (accessed m i (Writes c t v)) i p a)) (recorded (Writes c t v) m.held ws)
   unfolding recorded accessed with_row
   write_plain c t v d p a o q h b r =

@@ -1,16 +1,15 @@
 -- From one store and view, a code makes one event at a time stamp. Assumes nothing.
 use mathlib.Core.Path.{◌≡◌, refl, sym, ap, ◌∙◌}
 use Prim.Native.Nat.{ℕ}
+use Rattle.std.specs.Prelude.{Option, Some}
 use Rattle.published.specs.Calls.{write, Code, Makes, read, read_at, write_at, swap_won, swap_lost}
 use Rattle.published.specs.Follows.{OneEvent}
 use Rattle.published.specs.Memory.{Loc, Has, Stamps, Memory, Event, Rule, rd, rd_a, mem_na_read, mem_at_read, mem_at_read_write}
 use Rattle.state.specs.declared.Name.{Name}
 use Rattle.state.specs.declared.Shape.{Shape}
-use Rattle.writes.specs.declared.Found.{Found}
-use Rattle.writes.specs.declared.Found.TheVariants.{Present}
 
 -- a history has one value at a time stamp
-one_value : (f : Found) (v u : ℕ) → f ≡ Present v → f ≡ Present u → v ≡ u
+one_value : (f : Option ℕ) (v u : ℕ) → f ≡ Some v → f ≡ Some u → v ≡ u
 one_value f v u p q = cc
 
 -- two stores that agree where they are, in histories and values

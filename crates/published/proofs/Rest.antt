@@ -2,12 +2,12 @@
 use mathlib.Core.Path.{◌≡◌, refl, sym, ap, ◌∙◌}
 use mathlib.Core.Bool.{Bool, true, false}
 use mathlib.Core.Logic.{◌⊎◌, ◌≢◌, inl, inr}
-use Prim.Native.Nat.{ℕ, ◌+◌, ◌-◌, ◌*◌, ◌/◌, ◌≤◌}
+use Prim.Native.Nat.{ℕ, ◌+◌, ◌-◌, ◌*◌, ◌/◌}
 use native.Mathlib.Omega.{arith}
 use borrow.Author.Tests.{eqb-false}
 use lib.Dec.{eqb}
 use Rattle.places.specs.Places.{rank_of}
-use Rattle.published.specs.Calls.{Code, if_code, enqueue3, dequeue3, rest_of, waits_for, answers, reads, writes, reads_at, writes_at, swaps_at}
+use Rattle.published.specs.Calls.{Code, if_code, enqueue3, dequeue3, rest_of, answers, reads, writes, reads_at, writes_at, swaps_at}
 use Rattle.published.specs.Follows.{Left}
 use Rattle.state.specs.declared.Place.{Place}
 use Rattle.state.specs.declared.Place.TheVariants.{Idle, PutStatus, PutSwap, PutWrite, PutPublish, TakeStatus, TakeSwap, TakeRead, TakeFree}
@@ -36,7 +36,7 @@ last c x Yes = PutPublish (x / 2)
 last c x No = Idle
 last c x None = Idle
 last c x (Got w) = TakeFree (x / 2 - c) w
-last c x (Refused n) = Idle
+last c x (Refused r) = Idle
 
 -- the place that a code with C slots is left at, found by running it with the status x
 unfoldable back : ℕ → ℕ → ℕ → Code → Place
@@ -104,16 +104,10 @@ module _ (s : Shape) where
       go (inl x) (inr y) = absurd (n (sym x ∙ same ∙ y.0))
       go (inr x) y = absurd (x.1 refl)
 
-  waits : (p : Place) → p ≢ Idle → 1 ≤ waits_for (rest_of s p)
-  waits Idle n = absurd (n refl)
-  waits (PutStatus h w) n = omega arith
-  waits (PutSwap h w) n = omega arith
-  waits (PutWrite h w) n = omega arith
-  waits (PutPublish h) n = omega arith
-  waits (TakeStatus t) n = omega arith
-  waits (TakeSwap t) n = omega arith
-  waits (TakeRead t) n = omega arith
-  waits (TakeFree t w) n = omega arith
+  -- a call that goes on has an event left
+  unanswered : (p : Place) (a : Answer) → p ≢ Idle → answers a ≢ rest_of s p
+  unanswered Idle a n e = n refl
+  unanswered p a n e = cc
 
   -- what is left of a code gives the place and the answer
   pub one_left : (c : Code) (p q : Place) (a b : Answer) → Left s p a c → Left s q b c → (p ≡ q) × (a ≡ b)
@@ -121,6 +115,6 @@ module _ (s : Shape) where
     where
       said : (x y : Answer) → answers x ≡ answers y → x ≡ y
       said x y d = cc
-  one_left c p q a b (inl (i, e)) (inr (n, f, j)) = absurd (omega (arith, waits q n, ap waits_for (sym e ∙ f)))
-  one_left c p q a b (inr (n, f, j)) (inl (i, e)) = absurd (omega (arith, waits p n, ap waits_for (sym e ∙ f)))
+  one_left c p q a b (inl (i, e)) (inr (n, f, j)) = absurd (unanswered q a n (sym e ∙ f))
+  one_left c p q a b (inr (n, f, j)) (inl (i, e)) = absurd (unanswered p b n (sym e ∙ f))
   one_left c p q a b (inr (n, f, j)) (inr (n', f', j')) = (one_rest p q n (sym f ∙ f'), j ∙ sym j')

@@ -10,6 +10,8 @@ use borrow.Author.Tests.{eq-eqb, ne_eqb}
 use lib.Dec.{ltb, eqb}
 use lib.ListN.{length, get_or, set}
 use native.Mathlib.Nat.{max_comm}
+use Rattle.std.specs.Prelude.{Option, Some, None}
+use Rattle.std.specs.Bool.{then_some}
 use Rattle.atomic.specs.Atomic.{told, met, read_atomic, write_atomic}
 use Rattle.laws.proofs.Tests.{fails_left, fails_right}
 use Rattle.laws.specs.Tests.{◌and◌}
@@ -30,15 +32,13 @@ use Rattle.view.proofs.Joined.{join_here}
 use Rattle.view.specs.View.{zero_view, stamp_of, with_stamp}
 use Rattle.view.specs.declared.View.{View}
 use Rattle.writes.proofs.History.{found_more}
-use Rattle.writes.specs.History.{earlier, present_if, shown_by, found}
+use Rattle.writes.specs.History.{earlier, shown_by, found}
 use Rattle.writes.specs.Records.{write}
 use Rattle.writes.specs.declared.Access.TheVariants.{Writes}
-use Rattle.writes.specs.declared.Found.{Found}
-use Rattle.writes.specs.declared.Found.TheVariants.{Missing, Present}
 use Rattle.writes.specs.declared.Write.{Write}
 
 -- a store by its histories and its atomic cells
-abbrev memory_of : (ℕ → ℕ → Found) → (Name → Atomic) → Memory
+abbrev memory_of : (ℕ → ℕ → Option ℕ) → (Name → Atomic) → Memory
 memory_of h cell = record { history = h; value = λ A. (cell A).value; seen = λ A a. stamp_of (cell A).view (a - 1) }
 
 -- where the thread goes and how many steps are counted is no part of the store
@@ -52,20 +52,20 @@ same_at : (D : Shape) (m n : Machine) (ws us : List Write) (A : Name) → atomic
 same_at D m n ws us A e =
     (ap (λ (a : Atomic). a.value) e, λ a l. ap (λ (x : Atomic). stamp_of x.view (a - 1)) e)
 
-earlier_missing : (f : Found) → earlier f Missing ≡ f
-earlier_missing Missing = refl
-earlier_missing (Present v) = refl
+earlier_missing : (f : Option ℕ) → earlier f None ≡ f
+earlier_missing None = refl
+earlier_missing (Some v) = refl
 
 -- a record shows its value at its own cell and stamp, and nowhere else
-shown_here : (c t v : ℕ) → shown_by (write c t v) c t ≡ Present v
+shown_here : (c t v : ℕ) → shown_by (write c t v) c t ≡ Some v
 unfolding shown_by ◌and◌
 shown_here c t v = rw (eq-eqb c c refl, eq-eqb t t refl)
 
-shown_else : (c t v b s : ℕ) → ((b ≡ c) × (s ≡ t) → ⊥) → shown_by (write c t v) b s ≡ Missing
+shown_else : (c t v b s : ℕ) → ((b ≡ c) × (s ≡ t) → ⊥) → shown_by (write c t v) b s ≡ None
 unfolding shown_by
 shown_else c t v b s n = go (ℕ_discrete b c)
   where
-    go : Dec (b ≡ c) → present_if (eqb c b and eqb t s) v ≡ Missing
+    go : Dec (b ≡ c) → then_some (eqb c b and eqb t s) v ≡ None
     go (yes e) = rw (fails_right (eqb c b) (eqb t s) (ne_eqb t s (λ q. n (e, sym q))))
     go (no d) = rw (fails_left (eqb c b) (eqb t s) (ne_eqb c b (λ q. d (sym q))))
 
@@ -89,12 +89,12 @@ module _ (m : Machine) (ws : List Write) (i : ℕ) (W : Whole m) (B : Bounds m.s
   own v a = ap (λ (x : View). stamp_of x (a - 1)) (row_here m i v (omega (arith, W.views)))
 
   -- a plain read
-  pub reads_plain : (c t v : ℕ) → Loc m.shape c → found (first_of m (c - 1)) ws c t m.held ≡ Present v → stamp_of (row m i) (c - 1) ≤ t → Goes (rd c t v) m ws
+  pub reads_plain : (c t v : ℕ) → Loc m.shape c → found (first_of m (c - 1)) ws c t m.held ≡ Some v → stamp_of (row m i) (c - 1) ≤ t → Goes (rd c t v) m ws
   reads_plain c t v o h b = mem_na_read c t v _ _ o h b ((λ a s o. refl), (λ A q. (refl, λ a o. refl))) (λ a o. refl)
 
   -- a plain write: thread i's own view of the cell moves to the stamp
   pub writes_plain : (c t v : ℕ) → Loc m.shape c → m.held < length ws
-      → found (first_of m (c - 1)) ws c t m.held ≡ Missing → stamp_of (row m i) (c - 1) < t
+      → found (first_of m (c - 1)) ws c t m.held ≡ None → stamp_of (row m i) (c - 1) < t
       → Goes (wr c t v) (accessed m i (Writes c t v)) (set ws m.held (write c t v))
   unfolding accessed with_row first_of row
   writes_plain c t v o r h b = mem_na_write c t v _ _ o h b (here, else, cells) (moved, unmoved)
@@ -108,8 +108,8 @@ module _ (m : Machine) (ws : List Write) (i : ℕ) (W : Whole m) (B : Bounds m.s
       more : (a s : ℕ) → (store_of next longer).history a s ≡ earlier ((store_of m ws).history a s) (shown_by (write c t v) a s)
       more a s = rw add-one (found_more (first_of m (a - 1)) ws (write c t v) a s m.held r)
 
-      here : (store_of next longer).history c t ≡ Present v
-      here = more c t ∙ ap (λ (f : Found). earlier f (shown_by (write c t v) c t)) h ∙ shown_here c t v
+      here : (store_of next longer).history c t ≡ Some v
+      here = more c t ∙ ap (λ (f : Option ℕ). earlier f (shown_by (write c t v) c t)) h ∙ shown_here c t v
 
       else : (a s : ℕ) → Loc m.shape a → ((a ≡ c) × (s ≡ t) → ⊥) → (store_of next longer).history a s ≡ (store_of m ws).history a s
       else a s q n = more a s ∙ ap (earlier ((store_of m ws).history a s)) (shown_else c t v a s n) ∙ earlier_missing ((store_of m ws).history a s)

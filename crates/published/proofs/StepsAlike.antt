@@ -2,41 +2,37 @@
 use mathlib.Core.Path.{◌≡◌, refl, sym, ap, ◌∙◌}
 use mathlib.Core.List.{List}
 use mathlib.Core.Logic.{⊎_elim}
-use Prim.Native.Nat.{ℕ, zero, suc, ◌+◌, ◌-◌, ◌<◌}
+use Prim.Native.Nat.{ℕ, ◌+◌, ◌-◌, ◌<◌}
 use native.Mathlib.Omega.{arith}
 use native.Mathlib.Decide.{ℕ_discrete}
+use Rattle.std.specs.Prelude.{Option, Some, None}
 use Rattle.published.proofs.OneRule.{Agree, has_or_lacks}
 use Rattle.published.proofs.OneStep.{Same, same}
 use Rattle.published.proofs.Follows.{taken_follows}
 use Rattle.published.proofs.OneEvent.{Shared}
 use Rattle.published.specs.Follows.{store_of, stamps_of, after, Performed, StepsAlike}
 use Rattle.published.specs.Memory.{Has}
-use Rattle.rules.proofs.Alike.{first_same, room_unjudged}
-use Rattle.rules.proofs.Refused.{refused_keeps}
+use Rattle.rules.proofs.Alike.{first_same, reason_same}
+use Rattle.rules.proofs.Refused.{numbered, refused_keeps}
 use Rattle.rules.proofs.RoomSteps.{lacks_none}
-use Rattle.rules.specs.Kept.{number_given, Lacks, SameRoom, Alike}
-use Rattle.rules.specs.Step.{Outcome, step_of}
+use Rattle.rules.specs.Kept.{Lacks, SameRoom, Alike}
+use Rattle.rules.specs.Step.{Outcome, refusal_of, decided_of, step_of}
 use Rattle.state.specs.State.{cells_of, row, place, atomic_at, first_of}
 use Rattle.state.specs.declared.Machine.{Machine}
 use Rattle.state.specs.declared.Name.{Name}
-use Rattle.step.specs.Answer.{number_of}
-use Rattle.step.specs.declared.Answer.{Answer}
-use Rattle.step.specs.declared.Answer.TheVariants.{Dash, Ok, Value, Yes, No, None, Got, Refused}
+use Rattle.step.proofs.Numbered.{above_zero}
+use Rattle.step.specs.Reason.{number_by}
+use Rattle.step.specs.declared.Answer.TheVariants.{Refused}
+use Rattle.step.specs.declared.Reason.{Reason}
 use Rattle.step.specs.declared.Step.{Step}
 use Rattle.view.specs.View.{stamp_of}
 use Rattle.view.specs.declared.View.{View}
 use Rattle.writes.specs.declared.Write.{Write}
 
--- an answer with a number is that refusal
-refusing : (a : Answer) (r : ℕ) → number_of a ≡ suc r → a ≡ Refused (suc r)
-refusing Dash r e = absurd (omega arith)
-refusing Ok r e = absurd (omega arith)
-refusing (Value v) r e = absurd (omega arith)
-refusing Yes r e = absurd (omega arith)
-refusing No r e = absurd (omega arith)
-refusing None r e = absurd (omega arith)
-refusing (Got w) r e = absurd (omega arith)
-refusing (Refused k) r e = ap Refused e
+-- a step for which there is a reason is answered with it
+refusing : (m : Machine) (ws : List Write) (s : Step) (r : Reason) → refusal_of m ws s ≡ Some r → (step_of m ws s).done.answer ≡ Refused r
+unfolding step_of decided_of
+refusing m ws s r e = rw e
 
 -- the first values of machines with the same room
 first_kept : (m n : Machine) → SameRoom m n → (e : ℕ) → first_of n e ≡ first_of m e
@@ -96,20 +92,20 @@ module _ (m n : Machine) (ws : List Write) (s : Step) (A : Alike m n) (l : s.thr
           sym (rw d at (shares.store.seen B h (e + 1) (omega arith)))
 
 pub steps_alike : StepsAlike
-steps_alike m n ws s W X A = go (number_given m ws s) refl
+steps_alike m n ws s W X A = go (refusal_of m ws s) refl
   where
-    number : number_given n ws s ≡ number_given m ws s
-    number = (room_unjudged m n ws s A).1
+    reason : refusal_of n ws s ≡ refusal_of m ws s
+    reason = reason_same m n A ws s
 
-    go : (r : ℕ) → number_given m ws s ≡ r
+    go : (o : Option Reason) → refusal_of m ws s ≡ o
         → ((step_of n ws s).done.answer ≡ (step_of m ws s).done.answer) × ((step_of n ws s).writes ≡ (step_of m ws s).writes) × Alike (after (step_of m ws s)) (after (step_of n ws s))
-    go zero e =
-        let P = taken_follows m ws s W e in
-        let Q = taken_follows n ws s X (number ∙ e) in
+    go None e =
+        let P = taken_follows m ws s W (numbered m ws s ∙ ap number_by e) in
+        let Q = taken_follows n ws s X (numbered n ws s ∙ ap number_by (reason ∙ e)) in
         let l : s.thread - 1 < m.shape.threads = omega (arith, P.0.thread) in
         let S = shares m n ws s A l (step_of m ws s) (step_of n ws s) P.1 Q.1 in
         (S.answer, S.writes, alike_after m n ws s A l (step_of m ws s) (step_of n ws s) P.1 Q.1)
-    go (suc r) e =
-        let P = refused_keeps m ws s (omega arith) in
-        let Q = refused_keeps n ws s (omega (arith, number)) in
-        (refusing _ r (number ∙ e) ∙ sym (refusing _ r e), Q.1 ∙ sym P.1, rw (P.0, Q.0) A)
+    go (Some r) e =
+        let P = refused_keeps m ws s (rw (numbered m ws s, e) (above_zero r)) in
+        let Q = refused_keeps n ws s (rw (numbered n ws s, reason, e) (above_zero r)) in
+        (refusing n ws s r (reason ∙ e) ∙ sym (refusing m ws s r e), Q.1 ∙ sym P.1, rw (P.0, Q.0) A)

@@ -8,6 +8,8 @@ use Rattle.state.specs.declared.Place.TheVariants.{Idle, PutStatus, PutSwap, Put
 use Rattle.state.specs.declared.Shape.{Shape}
 use Rattle.step.specs.declared.Answer.{Answer}
 use Rattle.step.specs.declared.Answer.TheVariants.{Dash, Ok, Value, Yes, No, None, Got}
+use Rattle.step.specs.declared.LineKind.{LineKind}
+use Rattle.step.specs.declared.LineKind.TheVariants.{Begins, Goes, GoesAt}
 use Rattle.step.specs.declared.Verb.{Verb}
 use Rattle.step.specs.declared.Verb.TheVariants.{Get, Set, Load, Store, Swap, Put, Take, Go, GoAt}
 
@@ -84,14 +86,15 @@ rest_of s (TakeSwap t) = dequeue3 s t
 rest_of s (TakeRead t) = dequeue4 s t
 rest_of s (TakeFree t w) = dequeue5 s t w
 
--- which kind of line the rest of a call waits for, by its first event: 2 a plain location's, which has a time stamp; 1 an atomic one's; 0 none
-abbrev pub waits_for : Code → ℕ
-waits_for (answers a) = 0
-waits_for (reads a f) = 2
-waits_for (writes a v c) = 2
-waits_for (reads_at A f) = 1
-waits_for (writes_at A v c) = 1
-waits_for (swaps_at A u v c d) = 1
+-- Which kind of line the rest of a call waits for, by its first event: a go, with a stamp where the event is a plain location's, which
+-- has a time stamp. Of a call that has none left, the line begins another or is an access.
+abbrev pub waits_for : Code → LineKind
+waits_for (answers a) = Begins
+waits_for (reads a f) = GoesAt
+waits_for (writes a v c) = GoesAt
+waits_for (reads_at A f) = Goes
+waits_for (writes_at A v c) = Goes
+waits_for (swaps_at A u v c d) = Goes
 
 -- what a line of a thread at a place runs
 abbrev pub code_of : Shape → Verb → Place → Code

@@ -1,11 +1,9 @@
 -- The memory rules as published: source 000, Fig. 1 and Fig. 2 less its two rules of allocation, which document 01 does not cover. The time
 -- stamp that a rule leaves open is part of the event. Assumes nothing.
-use Rattle.std.specs.Prelude.{◌≡◌, ◌≢◌, ℕ, ◌+◌, ◌<◌, ◌≤◌, max}
+use Rattle.std.specs.Prelude.{◌≡◌, ◌≢◌, ℕ, ◌+◌, ◌<◌, ◌≤◌, max, Option, Some, None}
 use Rattle.state.specs.declared.Name.{Name}
 use Rattle.state.specs.declared.Name.TheVariants.{Head, Tail, Flag, Status}
 use Rattle.state.specs.declared.Shape.{Shape}
-use Rattle.writes.specs.declared.Found.{Found}
-use Rattle.writes.specs.declared.Found.TheVariants.{Missing, Present}
 
 -- a ∈ dom σ, a plain location: the plain cells, then the slots, from 1
 abbrev pub Loc : Shape → ℕ → Type 0
@@ -24,7 +22,7 @@ Stamps = ℕ → ℕ
 
 -- a store σ: a history (values by time stamp) for each plain location, a value and a view for each atomic one
 pub record Memory : Type 0 where
-  pub history : ℕ → ℕ → Found
+  pub history : ℕ → ℕ → Option ℕ
   pub value : Name → ℕ
   pub seen : Name → Stamps
 
@@ -59,7 +57,7 @@ SameAt D σ σ' A = (σ'.value A ≡ σ.value A) × SameView D (σ.seen A) (σ'.
 -- σ' = σ[a ↦ h'] with h' = h[t ↦ v]
 abbrev pub Extended : Shape → Memory → ℕ → ℕ → ℕ → Memory → Type 0
 Extended D σ a t v σ' =
-    (σ'.history a t ≡ Present v)
+    (σ'.history a t ≡ Some v)
     × ((b s : ℕ) → Loc D b → ((b ≡ a) × (s ≡ t) → ⊥) → σ'.history b s ≡ σ.history b s)
     × ((A : Name) → Has D A → SameAt D σ σ' A)
 
@@ -74,8 +72,8 @@ Replaced D σ A v U σ' =
 
 -- σ; W → σ'; W' by an event
 pub data Rule (D : Shape) (σ : Memory) (W : Stamps) : Event → Memory → Stamps → Type 0 where
-  mem_na_read : (a t v : ℕ) (σ' : Memory) (W' : Stamps) → Loc D a → σ.history a t ≡ Present v → W a ≤ t → SameStore D σ σ' → SameView D W W' → Rule D σ W (rd a t v) σ' W'
-  mem_na_write : (a t v : ℕ) (σ' : Memory) (W' : Stamps) → Loc D a → σ.history a t ≡ Missing → W a < t → Extended D σ a t v σ' → Moved D W a t W' → Rule D σ W (wr a t v) σ' W'
+  mem_na_read : (a t v : ℕ) (σ' : Memory) (W' : Stamps) → Loc D a → σ.history a t ≡ Some v → W a ≤ t → SameStore D σ σ' → SameView D W W' → Rule D σ W (rd a t v) σ' W'
+  mem_na_write : (a t v : ℕ) (σ' : Memory) (W' : Stamps) → Loc D a → σ.history a t ≡ None → W a < t → Extended D σ a t v σ' → Moved D W a t W' → Rule D σ W (wr a t v) σ' W'
   mem_at_read : (A : Name) (v : ℕ) (σ' : Memory) (W' : Stamps) → Has D A → σ.value A ≡ v → SameStore D σ σ' → Joined D W (σ.seen A) W' → Rule D σ W (rd_a A v) σ' W'
   mem_at_write : (A : Name) (v' : ℕ) (σ' : Memory) (W' : Stamps) → Has D A → Joined D W (σ.seen A) W' → Replaced D σ A v' W' σ' → Rule D σ W (wr_a A v') σ' W'
   mem_at_read_write : (A : Name) (v v' : ℕ) (σ' : Memory) (W' : Stamps) → Has D A → σ.value A ≡ v → Joined D W (σ.seen A) W' → Replaced D σ A v' W' σ' → Rule D σ W (rdwr_a A v v') σ' W'

@@ -1,5 +1,5 @@
 -- When each number of a refused step is given: the tests before a rule is looked at, then the premises of the rule. Assumes nothing.
-use Rattle.std.specs.Prelude.{◌≡◌, true, false, List, ◌⊎◌, ◌≢◌, ◌↔◌, ℕ, ◌-◌, ◌<◌, ◌≤◌, length}
+use Rattle.std.specs.Prelude.{◌≡◌, true, false, List, ◌⊎◌, ◌≢◌, ◌↔◌, ℕ, ◌-◌, ◌<◌, ◌≤◌, length, None}
 use Rattle.accesses.specs.Accesses.{full}
 use Rattle.places.specs.Places.{due_at}
 use Rattle.published.specs.Calls.{Code, stamp_in, answers, reads, writes, reads_at, writes_at, swaps_at}
@@ -13,7 +13,6 @@ use Rattle.state.specs.declared.Machine.{Machine}
 use Rattle.step.specs.Limit.{most}
 use Rattle.step.specs.declared.Step.{Step}
 use Rattle.verbs.specs.Verbs.{asks, named, greatest}
-use Rattle.writes.specs.declared.Found.TheVariants.{Missing}
 use Rattle.writes.specs.declared.Write.{Write}
 
 -- a rule's premise on the thread's view, of the plain event that a code makes at a time stamp
@@ -28,8 +27,8 @@ ViewPremise W (swaps_at A u v c d) t = Unit {0}
 -- and its premise on the history
 abbrev pub HistoryPremise : Memory → Code → ℕ → Type 0
 HistoryPremise σ (answers a) t = Unit {0}
-HistoryPremise σ (reads a f) t = σ.history a t ≢ Missing
-HistoryPremise σ (writes a v c) t = σ.history a t ≡ Missing
+HistoryPremise σ (reads a f) t = σ.history a t ≢ None
+HistoryPremise σ (writes a v c) t = σ.history a t ≡ None
 HistoryPremise σ (reads_at A f) t = Unit {0}
 HistoryPremise σ (writes_at A v c) t = Unit {0}
 HistoryPremise σ (swaps_at A u v c d) t = Unit {0}

@@ -5,9 +5,9 @@ ghost use Rattle.std.specs.Prelude.{◌≤◌, length};
 ghost use Rattle.printed.specs.Printed.{printed_text};
 ghost use Rattle.report.specs.Inside.{Inside};
 
-use number::Written;
 use printed::Printed;
 
+// A buffer and how much of it is used: there is no heap. A part that is named is proved; `&bytes[..n]` as an argument was not.
 fn show_first(bytes: &[u8], n: usize)
     requires { n ≤ length bytes.now }
 {
@@ -17,32 +17,28 @@ fn show_first(bytes: &[u8], n: usize)
 }
 
 // What was put into a buffer.
-fn show_upto(bytes: &[u8], upto: Written)
+fn show_upto(bytes: &[u8], upto: Option<usize>)
     requires { Inside upto (length bytes.now) }
 {
-    match upto {
-        Written::Next(n) => show_first(bytes, n),
-        Written::Short => {}
+    if let Some(n) = upto {
+        show_first(bytes, n);
     }
 }
 
 fn show_line(line: Printed)
     requires { length (printed_text line) ≤ 64 }
 {
-    let mut space = [0u8; 64];
-    let room: &mut [u8] = &mut space;
-    let upto = printed::put_printed(room, 0, line);
-    show_upto(room, upto);
+    let mut room = [0u8; 64];
+    let upto = printed::put_printed(&mut room, 0, line);
+    show_upto(&room, upto);
 }
 
 fn show_report(text: &[u8], out: &mut [u8])
     requires { 131072 ≤ length out.old }
 {
     let r = reported::report(text, out);
-    let first = r.first;
-    let upto = r.upto;
-    show_line(first);
-    show_upto(out, upto);
+    show_line(r.first);
+    show_upto(out, r.upto);
 }
 
 fn main() {

@@ -4,14 +4,16 @@ use lib.Dec.{eqb, ltb}
 use lib.ListN.{length}
 use mathlib.Core.Bool.{Bool, false, true}
 use mathlib.Core.List.{List}
-use mathlib.Core.Path.{◌∙◌, ◌≡◌, sym}
+use mathlib.Core.Path.{◌≡◌}
 use native.Mathlib.Omega.{arith}
 use borrow.Author.Tests.{leb-true}
+use Rattle.std.specs.Prelude.{Option}
+use Rattle.std.specs.Prelude as std
 use Rattle.atomic.specs.Atomic.{swapped_of}
 use Rattle.places.specs.Places.{weight_of}
 use Rattle.rules.proofs.Access.{access_fits, accessed_fits, first_fits, value_fits}
 use Rattle.rules.proofs.Calls.{flag_in}
-use Rattle.rules.proofs.Refused.{numbered}
+use Rattle.rules.proofs.Refused.{no_refusal}
 use Rattle.rules.proofs.Standing.{Fits, standing}
 use Rattle.rules.specs.Kept.{number_given}
 use Rattle.laws.proofs.Tests.{apart}
@@ -32,6 +34,7 @@ use Rattle.state.specs.declared.Place.TheVariants.{Idle, PutPublish, PutStatus, 
 use Rattle.step.specs.Limit.{most}
 use Rattle.step.specs.declared.Answer.{Answer}
 use Rattle.step.specs.declared.Answer.TheVariants.{No, None}
+use Rattle.step.specs.declared.Reason.{Reason}
 use Rattle.step.specs.declared.Step.{Step}
 use Rattle.step.specs.declared.Verb.{Verb}
 use Rattle.step.specs.declared.Verb.TheVariants.{Get, Go, GoAt, Load, Put, Set, Store, Swap, Take}
@@ -39,7 +42,6 @@ use Rattle.verbs.specs.Verbs.{named}
 use Rattle.writes.specs.History.{newer, newest, newest_if, record_stands, records_stand}
 use Rattle.writes.specs.Records.{recorded}
 use Rattle.writes.specs.declared.Access.{Access}
-use Rattle.writes.specs.declared.Found.{Found}
 use Rattle.writes.specs.declared.Newest.{Newest}
 use Rattle.writes.specs.declared.Write.{Write}
 
@@ -83,7 +85,7 @@ PassedAll m ws s = Passed (stands m ws) m (length ws) s (asked m s) (found_by m 
 
 pub passed_all : (m : Machine) (ws : List Write) (s : Step) → number_given m ws s ≡ 0 → PassedAll m ws s
 unfolding refusal_of
-passed_all m ws s e = (passed _ _ _ _ _ _ (sym (numbered m ws s) ∙ e)).0
+passed_all m ws s e = (passed _ _ _ _ _ _ (no_refusal m ws s e)).0
 
 taken_by_lem : (m : Machine) (ws : List Write) (s : Step) → PassedAll m ws s → InRange (taken_by m s (asked m s) (found_by m ws (asked m s))).answer
 unfolding taken_by
@@ -98,14 +100,14 @@ taken_by_lem m ws s t =
     let known : named (accessed m i a).shape s.verb ≡ true = rw (accessed_shape m i a) t.names in
     acted_in n _ (recorded a m.held ws) (accessed_fits n m ws fits i a l t.room fit) i here s.verb _ known (value_fits n m ws fits a)
 
-decided_in : (r : ℕ) (m : Machine) (s : Step) (a : Access) (f : Found) → r ≡ 0 → InRange (taken_by m s a f).answer
-    → InRange (decided_by r m s a f).done.answer
-decided_in r m s a f e h = rw e h
+decided_in : (o : Option Reason) (m : Machine) (s : Step) (a : Access) (f : Option ℕ) → o ≡ std.None → InRange (taken_by m s a f).answer
+    → InRange (decided_by o m s a f).done.answer
+decided_in o m s a f e h = rw e h
 
 -- what a taken step answers
 pub taken_in : (m : Machine) (ws : List Write) (s : Step) → number_given m ws s ≡ 0 → InRange (step_of m ws s).done.answer
 unfolding step_of decided_of
-taken_in m ws s e = decided_in (refusal_of m ws s) m s _ _ (sym (numbered m ws s) ∙ e) (taken_by_lem m ws s (passed_all m ws s e))
+taken_in m ws s e = decided_in (refusal_of m ws s) m s _ _ (no_refusal m ws s e) (taken_by_lem m ws s (passed_all m ws s e))
 
 newer_if : (b : Bool) (w : Write) (s : Newest) → w.value ≤ most → s.value ≤ most → (newest_if b w s).value ≤ most
 newer_if true w s p q = p

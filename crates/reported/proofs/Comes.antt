@@ -1,13 +1,14 @@
--- What a run comes to: at most 4,096 answers, a refusal's number up to 99, a queue of at most 16 ranks. Assumes nothing.
-use Prim.Native.Nat.{◌+◌, ◌*◌, ◌-◌, ◌<◌, ◌≤◌, suc, zero, ℕ}
+-- What a run comes to: at most 4,096 answers, a queue of at most 16 ranks. Assumes nothing.
+use Prim.Native.Nat.{◌+◌, ◌*◌, ◌-◌, ◌<◌, ◌≤◌, ℕ}
 use lib.ListN.{length, length-append}
 use mathlib.Core.Bool.{Bool, false, false≢true, true}
 use mathlib.Core.List.{List, [], ◌∷◌, map}
 use mathlib.Core.Logic.{◌⊎◌, inl, inr, ⊎_elim}
 use mathlib.Core.Path.{◌∙◌, ◌≡◌, ap, refl, sym}
 use native.Mathlib.Omega.{arith}
+use Rattle.std.specs.Prelude.{Option, Some, None}
 use Rattle.rules.proofs.Fresh.{refused_falls}
-use Rattle.rules.proofs.Refused.{step_numbered, taken_counts}
+use Rattle.rules.proofs.Refused.{taken_counts}
 use Rattle.rules.proofs.Standing.{standing}
 use Rattle.rules.specs.Kept.{number_given}
 use Rattle.laws.specs.Tests.{◌and◌}
@@ -26,15 +27,26 @@ use Rattle.run.specs.Run.{Run, Told, goes_on_after, ran, stops}
 use Rattle.standing.proofs.Bounds.{bounds}
 use Rattle.standing.specs.Stands.{in_shape, stands}
 use Rattle.state.specs.declared.Machine.{Machine}
+use Rattle.step.proofs.Answered.{by_reason}
 use Rattle.step.specs.Answer.{number_of}
+use Rattle.step.specs.Reason.{number_by}
+use Rattle.step.specs.Refused.{reason_of}
 use Rattle.step.specs.declared.Answer.TheVariants.{Ok}
+use Rattle.step.specs.declared.Reason.{Reason}
 use Rattle.step.specs.declared.Step.{Step}
 use Rattle.writes.specs.declared.Write.{Write}
 
 -- what holds where the run stops, and where it goes on, holds
-goes_on : (Q : Run → Type 0) (k : ℕ) (x y : Run) → Q x → (k ≡ 0 → Q y) → Q (goes_on_after k x y)
-goes_on Q zero x y p q = q refl
-goes_on Q (suc k) x y p q = p
+goes_on : (Q : Run → Type 0) (o : Option Reason) (x y : Run) → Q x → (o ≡ None → Q y) → Q (goes_on_after o x y)
+goes_on Q None x y p q = q refl
+goes_on Q (Some r) x y p q = p
+
+abbrev given : Machine → List Write → Step → Option Reason
+given m ws s = reason_of (step_of m ws s).done.answer
+
+-- a step for which no reason is given has no number
+taken_zero : (m : Machine) (ws : List Write) (s : Step) → given m ws s ≡ None → number_given m ws s ≡ 0
+taken_zero m ws s e = by_reason _ ∙ ap number_by e
 
 -- at most n answers, and their lines
 abbrev pub Few : ℕ → List Told → Type 0
@@ -58,12 +70,13 @@ few m ws (s ∷ ss) =
     let o = step_of m ws s in
     let n = 4096 - m.steps in
     let rest = (ran o.done.machine o.writes ss).answers in
-    goes_on (λ r. Few n r.answers) (number_given m ws s) (stops m ws (number_given m ws s)) _ (few_none n)
+    goes_on (λ r. Few n r.answers) (given m ws s) (stops m ws (given m ws s)) _ (few_none n)
     (λ e.
-    let p = passed_all m ws s e in
+    let z = taken_zero m ws s e in
+    let p = passed_all m ws s z in
     let digit = length_pow 0 s.thread (omega (arith, p.thread, (bounds m ws p.stands).threads)) in
-    few_more n (4096 - o.done.machine.steps) _ rest (answer_short s.thread 1 digit o.done.answer (taken_in m ws s e))
-    (omega (arith, p.steps, taken_counts m ws s e)) (few o.done.machine o.writes ss))
+    few_more n (4096 - o.done.machine.steps) _ rest (answer_short s.thread 1 digit o.done.answer (taken_in m ws s z))
+    (omega (arith, p.steps, taken_counts m ws s z)) (few o.done.machine o.writes ss))
 
 -- the machine counts the steps that are taken
 counted : (m : Machine) (ws : List Write) (ss : List Step) → (ran m ws ss).machine.steps ≡ m.steps + length (ran m ws ss).answers
@@ -71,19 +84,8 @@ unfolding ran
 counted m ws [] = omega arith
 counted m ws (s ∷ ss) =
     let o = step_of m ws s in
-    goes_on (λ r. r.machine.steps ≡ m.steps + length r.answers) (number_given m ws s) (stops m ws (number_given m ws s)) _ (omega arith)
-    (λ e. omega (arith, taken_counts m ws s e, counted o.done.machine o.writes ss))
-
-number_small : (m : Machine) (ws : List Write) (s : Step) → number_given m ws s ≤ 99
-number_small m ws s =
-    ⊎_elim (λ (e : number_given m ws s ≡ 0). omega arith) (λ (h : (6 ≤ number_given m ws s) × (number_given m ws s ≤ 14)). omega (arith, h.1)) (step_numbered m ws s)
-
-pub refused_small : (m : Machine) (ws : List Write) (ss : List Step) → (ran m ws ss).refused ≤ 99
-unfolding ran
-refused_small m ws [] = omega arith
-refused_small m ws (s ∷ ss) =
-    goes_on (λ r. r.refused ≤ 99) (number_given m ws s) (stops m ws (number_given m ws s)) _ (number_small m ws s)
-    (λ e. refused_small (step_of m ws s).done.machine (step_of m ws s).writes ss)
+    goes_on (λ r. r.machine.steps ≡ m.steps + length r.answers) (given m ws s) (stops m ws (given m ws s)) _ (omega arith)
+    (λ e. omega (arith, taken_counts m ws s (taken_zero m ws s e), counted o.done.machine o.writes ss))
 
 -- a queue of at most 16 ranks, none above 4,096; where there is one, the state stands
 abbrev pub Listed : Machine → List Write → Type 0
@@ -103,8 +105,8 @@ ran_fallen : (m : Machine) (ws : List Write) (ss : List Step) → stands m ws �
 unfolding ran
 ran_fallen m ws [] h = refl
 ran_fallen m ws (s ∷ ss) h =
-    goes_on (λ r. r.machine ≡ m) (number_given m ws s) (stops m ws (number_given m ws s)) _ refl
-    (λ e. absurd (false≢true (sym h ∙ (passed_all m ws s e).stands)))
+    goes_on (λ r. r.machine ≡ m) (given m ws s) (stops m ws (given m ws s)) _ refl
+    (λ e. absurd (false≢true (sym h ∙ (passed_all m ws s (taken_zero m ws s e)).stands)))
 
 opened_or : (b d : Bool) (m : Machine)
     → ((opened_if b d m).answer ≡ Ok) ⊎ (((opened_if b d m).machine.head.value ≡ 0) × (0 < number_of (opened_if b d m).answer))

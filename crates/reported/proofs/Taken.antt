@@ -16,7 +16,7 @@ use Rattle.texts.proofs.Lines.{range_head, range_right, range_tail}
 use Rattle.texts.proofs.OnlySchedules.{schedule_only_text}
 use Rattle.texts.specs.Schedule.{Schedule, all_in_range, lines_for, lines_of, reads, schedule, schedule_of, weights_at}
 use Rattle.schedule.specs.Sections.{judged}
-use Rattle.schedule.specs.declared.Judged.TheVariants.{Taken}
+use Rattle.std.specs.Prelude.{Ok}
 use Rattle.schedule.specs.declared.Sections.{Sections}
 
 plain_fits : (n : ℕ) → line_in_range (HeaderLine Plain n) ≡ true → n ≤ 16
@@ -34,10 +34,10 @@ lines_fit x e =
     let at_flag = range_right (map WeightLine x.plain) _ (range_tail _ _ at_plain) in
     (plain_fits _ (range_head _ _ at_plain), flag_fits _ (range_head _ _ at_flag))
 
-taken_reads : (s : List ℕ) (x : Sections) → judged s ≡ Taken x → reads s ≡ schedule (schedule_of s x)
+taken_reads : (s : List ℕ) (x : Sections) → judged s ≡ Ok x → reads s ≡ schedule (schedule_of s x)
 unfolding reads
 taken_reads s x e = rw e
 
-pub taken_fits : (s : List ℕ) (x : Sections) → judged s ≡ Taken x → (length (weights_at s x.plain) ≤ 16) × (length (weights_at s x.flag) ≤ 8)
+pub taken_fits : (s : List ℕ) (x : Sections) → judged s ≡ Ok x → (length (weights_at s x.plain) ≤ 16) × (length (weights_at s x.flag) ≤ 8)
 unfolding schedule_of
 taken_fits s x e = lines_fit (schedule_of s x) (schedule_only_text s (schedule_of s x) (taken_reads s x e)).1.ranged

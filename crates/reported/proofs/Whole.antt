@@ -4,9 +4,8 @@ use lib.ListN.{length, replicate, take}
 use lib.Seq.{take_all}
 use mathlib.Core.List.{List, ◌++◌, map}
 use mathlib.Core.Path.{◌∙◌, ◌≡◌, ap, refl, sym}
+use Rattle.std.specs.Prelude.{Option, Some}
 use Rattle.fault.specs.declared.Refusal.{Refusal}
-use Rattle.number.specs.declared.Written.{Written}
-use Rattle.number.specs.declared.Written.TheVariants.{Next}
 use Rattle.printed.specs.Printed.{Page, page, put_lines}
 use Rattle.printed.specs.declared.Printed.{Printed}
 use Rattle.reported.proofs.Page.{put_append}
@@ -24,17 +23,17 @@ use Rattle.texts.specs.Schedule.{Schedule, reads, schedule_of, steps_at, weights
 use Rattle.writes.specs.Records.{no_write}
 use Rattle.schedule.specs.Sections.{judged}
 use Rattle.schedule.specs.declared.Sections.{Sections}
-use Rattle.schedule.specs.declared.Judged.TheVariants as judged_as
+use Rattle.std.specs.Prelude.{Ok, Err}
 use Rattle.printed.specs.declared.Word.TheVariants as word
 
 -- where a text is refused
-pub refused_report : (s : List ℕ) (r : Refusal) (before : List ℕ) {p : Printed} → judged s ≡ judged_as.Refused r → p ≡ text_line r
-    → Reports (reported s) before (record { first = p; upto = Next 0 }) before
+pub refused_report : (s : List ℕ) (r : Refusal) (before : List ℕ) {p : Printed} → judged s ≡ Err r → p ≡ text_line r
+    → Reports (reported s) before (record { first = p; upto = Some 0 }) before
 unfolding reported reads put_lines
 refused_report s r before e f = rw e (record { first = f; rest = refl })
 
 -- where it is taken
-pub taken_report : (s : List ℕ) (x : Sections) {before after : List ℕ} {r : Reported} → judged s ≡ judged_as.Taken x
+pub taken_report : (s : List ℕ) (x : Sections) {before after : List ℕ} {r : Reported} → judged s ≡ Ok x
     → Reports (run_lines (run_of (schedule_of s x))) before r after → Reports (reported s) before r after
 unfolding reported reads
 taken_report s x e o = rw e o
@@ -47,14 +46,14 @@ unfolding run_of schedule_of
 run_is s x f e = rw (e, take_all 16 (weights_at s x.plain) f.0, take_all 8 (weights_at s x.flag) f.1)
 
 -- its lines: its answers, as many as the machine has steps, its queue, its refusal
-pub run_report : (x : Schedule) (b : List ℕ) {e : Ended} {l m k : List ℕ} {q u : Written} {p : Printed}
+pub run_report : (x : Schedule) (b : List ℕ) {e : Ended} {l m k : List ℕ} {q u : Option ℕ} {p : Printed}
     → Ends (run_of x) b e l → page q m ≡ put_lines (page e.upto l) (queue_lines e.machine e.writes)
     → page u k ≡ put_lines (page q m) (refused_lines e.machine.steps e.refused) → p ≡ heading word.Answers e.machine.steps
     → Reports (run_lines (run_of x)) b (record { first = p; upto = u }) k
 unfolding run_lines run_of
 run_report x b {e} {l} o f g h =
     let r = run_of x in
-    let start = page (Next 0) b in
+    let start = page (Some 0) b in
     let told = map told_line r.answers in
     let queue = queue_lines e.machine e.writes in
     let last = refused_lines e.machine.steps e.refused in

@@ -1,7 +1,6 @@
 -- What is promised of reports: in a buffer of 131,072 bytes nothing of one is lost. Assumes nothing.
-use Rattle.std.specs.Prelude.{ℕ, ◌≤◌, ◌≡◌, List, ◌++◌, length, take}
+use Rattle.std.specs.Prelude.{ℕ, ◌≤◌, ◌≡◌, List, ◌++◌, length, take, Some}
 use Rattle.std.proofs.lemmas.List.Edits.{sets}
-use Rattle.number.specs.declared.Written.TheVariants.{Next}
 use Rattle.printed.specs.Printed.{lines_text, printed_text}
 use Rattle.reported.specs.Buffer.{Reports}
 use Rattle.reported.specs.Report.{reported, report_text}
@@ -20,6 +19,6 @@ ReportShort = (s : List ℕ) → (length (printed_text (reported s).first) ≤ 6
 abbrev pub ReportWhole : Type 0
 ReportWhole =
     (s before after : List ℕ) (r : Reported) → Reports (reported s) before r after → 131072 ≤ length before
-    → (r.upto ≡ Next (length (rest_text s)))
+    → (r.upto ≡ Some (length (rest_text s)))
     × (after ≡ sets before 0 (rest_text s))
     × (printed_text r.first ++ take (length (rest_text s)) after ≡ report_text s)

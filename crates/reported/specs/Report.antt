@@ -1,6 +1,6 @@
 -- What the report program prints, for any input. "The report program reads a schedule on standard input, checks the whole text, runs with
 -- 1,024 records until the first refused step, and prints." Assumes nothing.
-use Rattle.std.specs.Prelude.{ℕ, zero, suc, ◌+◌, ◌-◌, List, [], ◌∷◌, ◌++◌, map, length, replicate}
+use Rattle.std.specs.Prelude.{ℕ, zero, suc, ◌+◌, ◌-◌, List, [], ◌∷◌, ◌++◌, map, length, replicate, Option, Some, None}
 use Rattle.fault.specs.Refusal.{number_of, place_of}
 use Rattle.fault.specs.declared.Refusal.{Refusal}
 use Rattle.rules.specs.Step.{content_of}
@@ -15,6 +15,8 @@ use Rattle.run.specs.Ends.{told_line}
 use Rattle.run.specs.Run.{Run, ran}
 use Rattle.texts.specs.Schedule.{Schedule, Outcome, schedule, refusal, reads}
 use Rattle.state.specs.declared.Machine.{Machine}
+use Rattle.step.specs.Reason.{number}
+use Rattle.step.specs.declared.Reason.{Reason}
 use Rattle.writes.specs.Records.{no_write}
 use Rattle.writes.specs.declared.Write.{Write}
 
@@ -35,9 +37,9 @@ queue_lines m ws =
     heading Queue count ∷ rank_lines m ws count m.tail.value
 
 -- "`refused`: 0 and no line, or 1 and a line of step number (from 1) and refusal number"
-unfoldable pub refused_lines : ℕ → ℕ → List Printed
-refused_lines taken zero = heading Refused 0 ∷ []
-refused_lines taken (suc n) = heading Refused 1 ∷ Two (Counts (taken + 1)) (Counts (suc n)) ∷ []
+unfoldable pub refused_lines : ℕ → Option Reason → List Printed
+refused_lines taken None = heading Refused 0 ∷ []
+refused_lines taken (Some r) = heading Refused 1 ∷ Two (Counts (taken + 1)) (Counts (number r)) ∷ []
 
 -- a report is its first line and the rest
 pub record Lines : Type 0 where

@@ -8,17 +8,17 @@ ghost use Rattle.reported.specs.Report.{heading, text_line, rank_lines, queue_li
 ghost use Rattle.reported.specs.Buffer.{Reports};
 
 use fault::Refusal;
-use number::Written;
 use printed::{Field, Printed, Word};
-use schedule::{Judged, Sections};
+use schedule::Sections;
 use state::Machine;
+use step::Reason;
 use writes::Write;
 
 // A report: its first line, and the place after the other lines in the buffer.
 #[derive(Clone, Copy)]
 pub struct Reported {
     pub first: Printed,
-    pub upto: Written,
+    pub upto: Option<usize>,
 }
 
 // A word and a count.
@@ -50,24 +50,28 @@ fn ranks_between(tail: u32, head: u32) -> u32
 }
 
 // What the queue holds, a line for each rank from one on.
-fn put_ranks(m: Machine, ws: [Write; 1024], count: u32, out: &mut [u8], upto: Written) -> Written
+fn put_ranks(
+    m: Machine,
+    ws: [Write; 1024],
+    count: u32,
+    out: &mut [u8],
+    upto: Option<usize>,
+) -> Option<usize>
     requires { m.tail.value + count ≤ 2 ^ 32 }
     ensures { page result out.new ≡ put_lines (page upto out.old) (rank_lines m ws count m.tail.value) }
 {
     let tail = m.tail;
     let first = tail.value;
     let mut w = upto;
-    let mut left = count;
-    while 0 < left {
-        let k = first + (count - left);
+    for i in 0..count {
+        let k = first + i;
         let a = machine::content(m, ws, k);
         w = printed::put_next(out, w, printed::answer_line(k, a));
-        left = left - 1;
     }
     w
 }
 
-fn put_queue(m: Machine, ws: [Write; 1024], out: &mut [u8], upto: Written) -> Written
+fn put_queue(m: Machine, ws: [Write; 1024], out: &mut [u8], upto: Option<usize>) -> Option<usize>
     ensures { page result out.new ≡ put_lines (page upto out.old) (queue_lines m ws) }
 {
     let head = m.head;
@@ -77,19 +81,27 @@ fn put_queue(m: Machine, ws: [Write; 1024], out: &mut [u8], upto: Written) -> Wr
     put_ranks(m, ws, count, out, w)
 }
 
-fn put_refused(out: &mut [u8], upto: Written, taken: u32, refused: u32) -> Written
+fn put_refused(
+    out: &mut [u8],
+    upto: Option<usize>,
+    taken: u32,
+    refused: Option<Reason>,
+) -> Option<usize>
     ensures { page result out.new ≡ put_lines (page upto out.old) (refused_lines taken refused) }
 {
-    if refused == 0 {
-        return printed::put_next(out, upto, count_line(Word::Refused, 0));
+    match refused {
+        None => printed::put_next(out, upto, count_line(Word::Refused, 0)),
+        Some(reason) => {
+            let w = printed::put_next(out, upto, count_line(Word::Refused, 1));
+            let step = (taken as u64) + 1;
+            let number = reason.number() as u64;
+            printed::put_next(
+                out,
+                w,
+                Printed::Two(Field::Counts(step), Field::Counts(number)),
+            )
+        }
     }
-    let w = printed::put_next(out, upto, count_line(Word::Refused, 1));
-    let step = (taken as u64) + 1;
-    printed::put_next(
-        out,
-        w,
-        Printed::Two(Field::Counts(step), Field::Counts(refused as u64)),
-    )
 }
 
 // The report of a text whose sections were taken.
@@ -114,11 +126,13 @@ pub fn report(text: &[u8], out: &mut [u8]) -> Reported
     ensures { Reports (reported text.now) out.old result out.new }
 {
     match judging::judge(text) {
-        Judged::Taken(s) => report_run(text, s, out),
-        Judged::Refused(r) => {
+        Ok(s) => report_run(text, s, out),
+        Err(r) => {
             let first = text_line(r);
-            let upto = Written::Next(0);
-            Reported { first, upto }
+            Reported {
+                first,
+                upto: Some(0),
+            }
         }
     }
 }

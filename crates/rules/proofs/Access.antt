@@ -1,6 +1,6 @@
 -- The plain access of a step: what it reads and what it writes fits. Assumes nothing.
-use mathlib.Core.Path.{◌≡◌}
-use mathlib.Core.Bool.{Bool, true, false}
+use mathlib.Core.Path.{◌≡◌, refl}
+use mathlib.Core.Bool.{Bool, true, false, not}
 use mathlib.Core.List.{List}
 use Prim.Native.Nat.{ℕ, zero, suc, ◌-◌, ◌<◌, ◌≤◌}
 use native.Mathlib.Omega.{arith}
@@ -8,6 +8,8 @@ use native.Mathlib.Decide.{dec_lt}
 use borrow.Author.Tests.{leb-true, leb-false, le-leb, le-ltb}
 use lib.Dec.{eqb}
 use lib.ListN.{length}
+use Rattle.std.specs.Prelude.{Option, Some, None, is_some}
+use Rattle.std.specs.Bool.{then_some}
 use Rattle.accesses.specs.Accesses.{full}
 use Rattle.parts.specs.Parts.{firsts_stand}
 use Rattle.rules.proofs.Parts.{row_fits, held_fits}
@@ -27,13 +29,20 @@ use Rattle.step.specs.declared.Verb.{Verb}
 use Rattle.step.specs.declared.Verb.TheVariants.{Get, Set, Load, Store, Swap, Put, Take, Go, GoAt}
 use Rattle.verbs.specs.Verbs.{named, greatest}
 use Rattle.view.specs.View.{with_stamp}
-use Rattle.writes.specs.History.{earlier, present_if, shown_by, found, record_stands, records_stand}
+use Rattle.writes.specs.History.{earlier, shown_by, found, record_stands, records_stand}
 use Rattle.writes.specs.Records.{write, recorded}
 use Rattle.writes.specs.declared.Access.{Access}
 use Rattle.writes.specs.declared.Access.TheVariants.{NoAccess, Reads, Writes}
-use Rattle.writes.specs.declared.Found.{Found}
-use Rattle.writes.specs.declared.Found.TheVariants.{Missing, Present}
 use Rattle.writes.specs.declared.Write.{Write}
+
+-- what a plain access found whose test of refusal 13 does not hold
+pub shown : (f : Option ℕ) → not (is_some f) ≡ false → f ≡ Some (value_of f)
+shown None e = cc
+shown (Some v) e = refl
+
+pub hidden : (f : Option ℕ) → is_some f ≡ false → f ≡ None
+hidden None e = refl
+hidden (Some v) e = cc
 
 -- what a plain write may be, of k cells
 abbrev pub AccessFits : ℕ → Access → Type 0
@@ -48,12 +57,12 @@ record_stands_lem k c t v h =
     together _ _ (le-leb _ _ h.0) (together _ _ (le-leb _ _ h.1) (together _ _ (le-leb _ _ h.2) (le-leb _ _ h.3)))
 
 -- of two searches that find values in range
-earlier_fits : (f g : Found) → value_of f ≤ most → value_of g ≤ most → value_of (earlier f g) ≤ most
-earlier_fits Missing g p q = q
-earlier_fits (Present v) g p q = p
+earlier_fits : (f g : Option ℕ) → value_of f ≤ most → value_of g ≤ most → value_of (earlier f g) ≤ most
+earlier_fits None g p q = q
+earlier_fits (Some v) g p q = p
 
 -- a value in range, found or not
-present_fits : (b : Bool) (v : ℕ) → v ≤ most → value_of (present_if b v) ≤ most
+present_fits : (b : Bool) (v : ℕ) → v ≤ most → value_of (then_some b v) ≤ most
 present_fits true v h = h
 present_fits false v h = omega arith
 

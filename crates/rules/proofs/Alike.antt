@@ -6,14 +6,15 @@ use Prim.Native.Nat.{ℕ, zero, suc, ◌+◌, ◌-◌, ◌*◌, ◌<◌, ◌≤�
 use native.Mathlib.Omega.{arith}
 use native.Mathlib.Decide.{dec_lt}
 use borrow.Author.Tests.{not-false, le-ltb}
-use lib.Dec.{leb, ltb, eqb}
+use lib.Dec.{leb, ltb}
 use lib.ListN.{length}
+use Rattle.std.specs.Prelude.{Option, None}
 use Rattle.accesses.specs.Accesses.{full, outdated, amiss}
 use Rattle.laws.specs.Tests.{◌and◌, all_below}
 use Rattle.parts.specs.Parts.{thread_stands, threads_stand, firsts_stand, atomic_stands, atomics_stand, cells_stand, parts_stand}
 use Rattle.places.specs.Places.{due_at, place_stands}
 use Rattle.refusal.proofs.Passed.{among_some}
-use Rattle.refusal.specs.Refusal.{refuse, refusal_by}
+use Rattle.refusal.specs.Refusal.{same_kind, refuse, refusal_by}
 use Rattle.rules.proofs.Parts.{Known}
 use Rattle.rules.proofs.Refused.{numbered}
 use Rattle.rules.proofs.RoomSteps.{lacks_none}
@@ -29,6 +30,9 @@ use Rattle.state.specs.declared.Name.{Name}
 use Rattle.state.specs.declared.Name.TheVariants.{Head, Tail, Flag, Status}
 use Rattle.state.specs.declared.Shape.{Shape}
 use Rattle.step.specs.Limit.{most}
+use Rattle.step.specs.Reason.{number_by}
+use Rattle.step.specs.declared.Reason.{Reason}
+use Rattle.step.specs.declared.Reason.TheVariants.{StepsTaken, NoSuchThread, NotDue, NoSuchCell, TooGreat, NoRecordFree, Outdated, Amiss, CannotStand}
 use Rattle.step.specs.declared.Step.{Step}
 use Rattle.verbs.specs.Verbs.{among, asks, named, greatest}
 use Rattle.view.specs.View.{stamp_of, view_stands}
@@ -60,7 +64,7 @@ unfolding view_stands
 view_same j k v w h f = all_same _ _ j k h (λ e l. rw (f e l))
 
 -- one test more of a chain
-refuse_same : (b c : Bool) (k r t : ℕ) → b ≡ c → (c ≡ false → r ≡ t) → refuse b k r ≡ refuse c k t
+refuse_same : (b c : Bool) (k : Reason) (r t : Option Reason) → b ≡ c → (c ≡ false → r ≡ t) → refuse b k r ≡ refuse c k t
 refuse_same b true k r t e f = rw e
 refuse_same b false k r t e f = rw e (f refl)
 
@@ -129,24 +133,24 @@ module _ (m n : Machine) (A : Alike m n) where
   outdated_same i (Reads c t) l r = rw (A.rows i (c - 1) l (omega arith))
   outdated_same i (Writes c t v) l r = rw (A.rows i (c - 1) l (omega arith))
 
-  number_same : (ws : List Write) (s : Step) → refusal_of n ws s ≡ refusal_of m ws s
+  pub reason_same : (ws : List Write) (s : Step) → refusal_of n ws s ≡ refusal_of m ws s
   unfolding refusal_of refusal_by
-  number_same ws s =
-      refuse_same _ _ 14 _ _ (ap not (stands_same ws))
-      (λ t14. refuse_same _ _ 6 _ _ (ap (leb 4096) A.steps)
-      (λ t6. refuse_same _ _ 7 _ _ (ap (λ (z : Shape). not (among s.thread z.threads)) A.shape)
+  reason_same ws s =
+      refuse_same _ _ CannotStand _ _ (ap not (stands_same ws))
+      (λ t14. refuse_same _ _ StepsTaken _ _ (ap (leb 4096) A.steps)
+      (λ t6. refuse_same _ _ NoSuchThread _ _ (ap (λ (z : Shape). not (among s.thread z.threads)) A.shape)
       (λ t7.
       let l : s.thread - 1 < m.shape.threads = omega (arith, among_some _ _ (not-false _ t7)) in
       let p = A.places (s.thread - 1) l in
       let a : asked n s ≡ asked m s = ap2 (λ z q. access_of z s.verb q) A.shape p in
-      refuse_same _ _ 8 _ _ (ap (λ q. not (eqb (asks s.verb) (due_at q))) p)
-      (λ t8. refuse_same _ _ 9 _ _ (ap (λ (z : Shape). not (named z s.verb)) A.shape)
-      (λ t9. ap (refuse (ltb most (greatest s.verb)) 10)
-      (refuse_same _ _ 11 _ _ (ap2 (λ x h. full x h (length ws)) a A.held)
-      (λ t11. refuse_same _ _ 12 _ _
+      refuse_same _ _ NotDue _ _ (ap (λ q. not (same_kind (asks s.verb) (due_at q))) p)
+      (λ t8. refuse_same _ _ NoSuchCell _ _ (ap (λ (z : Shape). not (named z s.verb)) A.shape)
+      (λ t9. ap (refuse (ltb most (greatest s.verb)) TooGreat)
+      (refuse_same _ _ NoRecordFree _ _ (ap2 (λ x h. full x h (length ws)) a A.held)
+      (λ t11. refuse_same _ _ Outdated _ _
       (ap (λ x. outdated x (row n (s.thread - 1))) a
       ∙ outdated_same (s.thread - 1) (asked m s) l (ranged m (bounds m ws (not-false _ t14)) s.verb (place m (s.thread - 1)) (not-false _ t9)))
-      (λ t12. ap (λ b. refuse b 13 0) (ap2 amiss a (ap (found_by n ws) a ∙ found_same ws (asked m s)))))))))))
+      (λ t12. ap (λ b. refuse b Amiss None) (ap2 amiss a (ap (found_by n ws) a ∙ found_same ws (asked m s)))))))))))
 
 pub room_unjudged : RoomUnjudged
-room_unjudged m n ws s A = (stands_same m n A ws, numbered n ws s ∙ number_same m n A ws s ∙ sym (numbered m ws s))
+room_unjudged m n ws s A = (stands_same m n A ws, numbered n ws s ∙ ap number_by (reason_same m n A ws s) ∙ sym (numbered m ws s))

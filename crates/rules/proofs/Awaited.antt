@@ -5,15 +5,16 @@ use Prim.Native.Nat.{ℕ, ◌+◌, ◌-◌, ◌<◌, ◌≤◌}
 use native.Mathlib.Decide.{dec_lt}
 use native.Mathlib.Omega.{arith}
 use borrow.Author.Tests.{ltb-false, le-ltb}
-use Rattle.accesses.specs.Accesses.{outdated, present, amiss}
+use Rattle.std.specs.Prelude.{is_some}
+use Rattle.accesses.specs.Accesses.{outdated, amiss}
 use Rattle.rules.specs.Access.{slot_cell, stamped_at, found_by}
 use Rattle.rules.specs.Kept.{number_given}
 use Rattle.rules.specs.Step.{asked, refusal_of}
 use Rattle.rules.proofs.Learnt.{Picture, Knows}
 use Rattle.rules.proofs.Listed.{Marked}
-use Rattle.rules.proofs.Moves.{shown}
+use Rattle.rules.proofs.Access.{shown}
 use Rattle.rules.proofs.Ranks.{slot_in}
-use Rattle.rules.proofs.Refused.{numbered}
+use Rattle.rules.proofs.Refused.{numbered, no_refusal}
 use Rattle.rules.proofs.Remembered.{picture, knew_at, one_stamp}
 use Rattle.rules.proofs.Ring.{Stage, aside, saw_free, filling, filled, saw_full, emptying, emptied, empties}
 use Rattle.rules.proofs.Ringed.{stages}
@@ -29,6 +30,7 @@ use Rattle.state.specs.State.{cells_of, row, place, first_of}
 use Rattle.state.specs.declared.Machine.{Machine}
 use Rattle.state.specs.declared.Place.{Place}
 use Rattle.state.specs.declared.Place.TheVariants.{TakeRead}
+use Rattle.step.specs.Reason.{number_by}
 use Rattle.view.specs.View.{stamp_of}
 use Rattle.view.specs.declared.View.{View}
 use Rattle.writes.specs.History.{found}
@@ -80,7 +82,7 @@ module _ (p : Point) (S : Sound p) where
     pub accepted : (a : ℕ) → n.calls (i - 1) ≡ taking 3 r → number_given m p.writes (go_at i a) ≡ 0 → a ≡ mine
     unfolding refusal_of found_by
     accepted a k h =
-        let q = passed _ _ _ _ _ _ (sym (numbered m p.writes (go_at i a)) ∙ h) in
+        let q = passed _ _ _ _ _ _ (no_refusal m p.writes (go_at i a) h) in
         let low = ltb-false _ _ (subst (λ (y : Access). outdated y (row m (i - 1)) ≡ false) (reads k a) q.1.0) in
         let fits = subst (λ (y : Access). amiss y (found_by m p.writes y) ≡ false) (reads k a) q.1.1 in
         let new = (one_stamp m p.writes n (i - 1) S.whole B S.ring S.memory r a _ (here k) low (shown _ fits)).0 in
@@ -91,7 +93,7 @@ module _ (p : Point) (S : Sound p) where
     unfolding refusal_of found_by cells_of slot_cell
     own k l h =
         numbered m p.writes (go_at i mine)
-        ∙ unrefused _ m _ (go_at i mine) _ _
+        ∙ ap number_by (unrefused _ m _ (go_at i mine) _ _
         (record {
           stands = S.stand;
           steps = h;
@@ -102,13 +104,13 @@ module _ (p : Point) (S : Sound p) where
               (omega (arith, slot_in m.shape.slots r B.some_slot));
           room = rw (reads k mine);
         })
-        (rw (reads k mine, cell m r B) (le-ltb mine mine (omega arith)), rw (reads k mine) (ap not there))
+        (rw (reads k mine, cell m r B) (le-ltb mine mine (omega arith)), rw (reads k mine) (ap not there)))
       where
         known : Dec (i - 1 < m.shape.threads) → i - 1 < m.shape.threads
         known (yes d) = d
         known (no d) = absurd (let e = sym (here k) ∙ S.spare (i - 1) (omega arith) in let z : ◌≡◌ {A = ℕ} 0 1 = cc in omega arith)
 
-        there : present (found (first_of m (slot_cell m.shape r - 1)) p.writes (slot_cell m.shape r) mine m.held) ≡ true
+        there : is_some (found (first_of m (slot_cell m.shape r - 1)) p.writes (slot_cell m.shape r) mine m.held) ≡ true
         there =
             let d : spot m r + 1 ≡ slot_cell m.shape r = omega arith in
             rw d at (S.recall.rows (i - 1) (spot m r) (omega (arith, slot_in m.shape.slots r B.some_slot)))

@@ -6,6 +6,7 @@ use Prim.Native.Nat.{ℕ, suc, ◌-◌, ◌<◌, ◌≤◌}
 use native.Mathlib.Numerals.{add-one}
 use native.Mathlib.Omega.{arith}
 use lib.ListN.{length, get_or, set}
+use Rattle.std.specs.Prelude.{Some, None}
 use Rattle.atomic.specs.Atomic.{met, told, read_atomic, write_atomic}
 use Rattle.laws.proofs.Lists.{set_here, set_else}
 use Rattle.rules.specs.Access.{accessed}
@@ -23,7 +24,6 @@ use Rattle.view.specs.declared.View.{View}
 use Rattle.writes.specs.History.{found}
 use Rattle.writes.specs.Records.{write, recorded}
 use Rattle.writes.specs.declared.Access.TheVariants.{Writes}
-use Rattle.writes.specs.declared.Found.TheVariants.{Missing, Present}
 use Rattle.writes.specs.declared.Write.{Write}
 
 -- thread i is at place q with view v, every other thread as it was
@@ -37,7 +37,7 @@ pub record Reading (m : Machine) (ws : List Write) (i c t v : ℕ) (q : Place) (
   pub cells : (a : Name) → atomic_at n a ≡ atomic_at m a
   pub held : n.held ≡ m.held
   pub low : stamp_of (row m i) (c - 1) ≤ t
-  pub shown : found (first_of m (c - 1)) ws c t m.held ≡ Present v
+  pub shown : found (first_of m (c - 1)) ws c t m.held ≡ Some v
 
 -- a plain write of v at stamp t of cell c
 pub record Writing (m : Machine) (ws : List Write) (i c t v : ℕ) (q : Place) (n : Machine) (us : List Write) : Type 0 where
@@ -47,7 +47,7 @@ pub record Writing (m : Machine) (ws : List Write) (i c t v : ℕ) (q : Place) (
   pub filed : us ≡ set ws m.held (write c t v)
   pub room : m.held < length ws
   pub above : stamp_of (row m i) (c - 1) < t
-  pub fresh : found (first_of m (c - 1)) ws c t m.held ≡ Missing
+  pub fresh : found (first_of m (c - 1)) ws c t m.held ≡ None
 
 -- an atomic read of cell a
 pub record Looking (m : Machine) (i : ℕ) (a : Name) (q : Place) (n : Machine) : Type 0 where
@@ -83,7 +83,7 @@ module _ (m : Machine) (i : ℕ) (W : Whole m) (l : i < 8) where
       }
 
   module _ (q : Place) (k : ℕ) where
-    pub is_reading : (ws : List Write) (c t v : ℕ) → stamp_of (row m i) (c - 1) ≤ t → found (first_of m (c - 1)) ws c t m.held ≡ Present v
+    pub is_reading : (ws : List Write) (c t v : ℕ) → stamp_of (row m i) (c - 1) ≤ t → found (first_of m (c - 1)) ws c t m.held ≡ Some v
         → Reading m ws i c t v q (with_steps (with_place m i q) k)
     unfolding with_place row
     is_reading ws c t v h e =
@@ -97,7 +97,7 @@ module _ (m : Machine) (i : ℕ) (W : Whole m) (l : i < 8) where
         }
 
     pub is_writing : (ws : List Write) (c t v : ℕ) → m.held < length ws → stamp_of (row m i) (c - 1) < t
-        → found (first_of m (c - 1)) ws c t m.held ≡ Missing
+        → found (first_of m (c - 1)) ws c t m.held ≡ None
         → Writing m ws i c t v q (with_steps (with_place (accessed m i (Writes c t v)) i q) k) (recorded (Writes c t v) m.held ws)
     unfolding with_place accessed with_row recorded
     is_writing ws c t v r h e =

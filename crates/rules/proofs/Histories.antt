@@ -8,13 +8,13 @@ use native.Mathlib.Omega.{arith}
 use borrow.Author.Tests.{eqb-true, eqb-false, ltb-true, ltb-false, eq-eqb, ne_eqb, lt-ltb}
 use lib.Dec.{eqb, ltb}
 use lib.ListN.{length, set}
+use Rattle.std.specs.Prelude.{Option, Some, None}
+use Rattle.std.specs.Bool.{then_some}
 use Rattle.laws.proofs.Lists.{set_here, set_else}
 use Rattle.laws.specs.Tests.{◌and◌}
 use Rattle.writes.proofs.History.{newest_same}
-use Rattle.writes.specs.History.{earlier, present_if, shown_by, found, newest_if, newer, newest}
+use Rattle.writes.specs.History.{earlier, shown_by, found, newest_if, newer, newest}
 use Rattle.writes.specs.Records.{no_write, nth, write}
-use Rattle.writes.specs.declared.Found.{Found}
-use Rattle.writes.specs.declared.Found.TheVariants.{Missing, Present}
 use Rattle.writes.specs.declared.Newest.{Newest}
 use Rattle.writes.specs.declared.Write.{Write}
 
@@ -46,23 +46,23 @@ newer_up s w c = go (eqb w.cell c) (ltb s.stamp w.stamp) refl refl
     go false b d e = (omega arith, λ h. absurd (eqb-false _ _ d h))
 
 -- a record that shows a value is of the cell and the stamp
-shown_is : (w : Write) (c t v : ℕ) → shown_by w c t ≡ Present v → (w.cell ≡ c) × (w.stamp ≡ t)
+shown_is : (w : Write) (c t v : ℕ) → shown_by w c t ≡ Some v → (w.cell ≡ c) × (w.stamp ≡ t)
 unfolding shown_by ◌and◌
 shown_is w c t v = go (eqb w.cell c) (eqb w.stamp t) refl refl
   where
-    go : (a b : Bool) → eqb w.cell c ≡ a → eqb w.stamp t ≡ b → present_if (a and b) w.value ≡ Present v → (w.cell ≡ c) × (w.stamp ≡ t)
+    go : (a b : Bool) → eqb w.cell c ≡ a → eqb w.stamp t ≡ b → then_some (a and b) w.value ≡ Some v → (w.cell ≡ c) × (w.stamp ≡ t)
     go true true d e h = (eqb-true _ _ d, eqb-true _ _ e)
-    go true false d e h = let z : ◌≡◌ {A = ℕ} 0 1 = cc in absurd (omega arith)
-    go false b d e h = let z : ◌≡◌ {A = ℕ} 0 1 = cc in absurd (omega arith)
+    go true false d e h = absurd cc
+    go false b d e h = absurd cc
 
 -- no stamp of the history is above the newest
-pub found_under : (first : ℕ) (ws : List Write) (c t v n : ℕ) → found first ws c t n ≡ Present v → t ≤ (newest first ws c n).stamp
+pub found_under : (first : ℕ) (ws : List Write) (c t v n : ℕ) → found first ws c t n ≡ Some v → t ≤ (newest first ws c n).stamp
 unfolding found newest
 found_under first ws c t v zero h = go (eqb t 0) refl h
   where
-    go : (b : Bool) → eqb t 0 ≡ b → present_if b first ≡ Present v → t ≤ 0
+    go : (b : Bool) → eqb t 0 ≡ b → then_some b first ≡ Some v → t ≤ 0
     go true e h = omega (arith, eqb-true t 0 e)
-    go false e h = let z : ◌≡◌ {A = ℕ} 0 1 = cc in absurd (omega arith)
+    go false e h = absurd cc
 found_under first ws c t v (suc n) h = go (found first ws c t n) (λ u. found_under first ws c t u n) h
   where
     w : Write
@@ -71,12 +71,12 @@ found_under first ws c t v (suc n) h = go (found first ws c t n) (λ u. found_un
     s : Newest
     s = newest first ws c n
 
-    go : (f : Found) → ((u : ℕ) → f ≡ Present u → t ≤ s.stamp) → earlier f (shown_by w c t) ≡ Present v → t ≤ (newer s w c).stamp
-    go Missing r e = let k = shown_is w c t v e in omega (arith, (newer_up s w c).1 k.0, k.1)
-    go (Present u) r e = omega (arith, r u refl, (newer_up s w c).0)
+    go : (f : Option ℕ) → ((u : ℕ) → f ≡ Some u → t ≤ s.stamp) → earlier f (shown_by w c t) ≡ Some v → t ≤ (newer s w c).stamp
+    go None r e = let k = shown_is w c t v e in omega (arith, (newer_up s w c).1 k.0, k.1)
+    go (Some u) r e = omega (arith, r u refl, (newer_up s w c).0)
 
 -- the newest stamp is in the history, with the newest value
-pub newest_shown : (first : ℕ) (ws : List Write) (c n : ℕ) → found first ws c (newest first ws c n).stamp n ≡ Present (newest first ws c n).value
+pub newest_shown : (first : ℕ) (ws : List Write) (c n : ℕ) → found first ws c (newest first ws c n).stamp n ≡ Some (newest first ws c n).value
 unfolding found newest newer shown_by ◌and◌
 newest_shown first ws c zero = refl
 newest_shown first ws c (suc n) =
@@ -90,14 +90,14 @@ newest_shown first ws c (suc n) =
     s = newest first ws c n
 
     go : (a b : Bool) → eqb w.cell c ≡ a → ltb s.stamp w.stamp ≡ b
-        → ((v : ℕ) → found first ws c w.stamp n ≡ Present v → w.stamp ≤ s.stamp)
-        → found first ws c s.stamp n ≡ Present s.value
+        → ((v : ℕ) → found first ws c w.stamp n ≡ Some v → w.stamp ≤ s.stamp)
+        → found first ws c s.stamp n ≡ Some s.value
         → earlier (found first ws c (newest_if (a and b) w s).stamp n) (shown_by w c (newest_if (a and b) w s).stamp)
-        ≡ Present (newest_if (a and b) w s).value
+        ≡ Some (newest_if (a and b) w s).value
     go true true d e r h = last (found first ws c w.stamp n) refl
       where
-        last : (g : Found) → found first ws c w.stamp n ≡ g → earlier g (shown_by w c w.stamp) ≡ Present w.value
-        last Missing k = rw (d, eq-eqb w.stamp w.stamp refl)
-        last (Present v) k = absurd (omega (arith, r v k, ltb-true s.stamp w.stamp e))
+        last : (g : Option ℕ) → found first ws c w.stamp n ≡ g → earlier g (shown_by w c w.stamp) ≡ Some w.value
+        last None k = rw (d, eq-eqb w.stamp w.stamp refl)
+        last (Some v) k = absurd (omega (arith, r v k, ltb-true s.stamp w.stamp e))
     go true false d e r h = rw h
     go false b d e r h = rw h

@@ -9,7 +9,7 @@ use Rattle.opening.specs.Opening.{opened_of}
 use Rattle.rules.proofs.Begun.{fresh_shape, fresh_sound}
 use Rattle.rules.proofs.Histories.{found_under}
 use Rattle.rules.proofs.Listed.{reaches}
-use Rattle.rules.proofs.Moves.{shown}
+use Rattle.rules.proofs.Access.{shown}
 use Rattle.rules.proofs.Room.{room_kept}
 use Rattle.rules.proofs.Shown.{contents}
 use Rattle.rules.proofs.Sound.{Sound, run}

@@ -2,9 +2,10 @@
 use mathlib.Core.Path.{◌≡◌, refl}
 use mathlib.Core.Bool.{true}
 use mathlib.Core.List.{List}
-use Prim.Native.Nat.{ℕ, zero, suc, ◌+◌, ◌-◌, ◌<◌}
+use Prim.Native.Nat.{ℕ, ◌+◌, ◌-◌, ◌<◌}
 use native.Mathlib.Omega.{arith}
 use lib.ListN.{length}
+use Rattle.std.specs.Prelude.{Option, Some, None}
 use Rattle.places.specs.Places.{rank_of}
 use Rattle.rules.proofs.Access.{value_fits, access_fits, accessed_fits}
 use Rattle.rules.proofs.Calls.{acted_fits}
@@ -18,11 +19,11 @@ use Rattle.rules.specs.Step.{taken_by, decided_by, asked, refusal_of, decided_of
 use Rattle.standing.specs.Stands.{stands}
 use Rattle.state.specs.State.{place}
 use Rattle.state.specs.declared.Machine.{Machine}
+use Rattle.step.specs.declared.Reason.{Reason}
 use Rattle.step.specs.declared.Step.{Step}
 use Rattle.verbs.specs.Verbs.{named}
 use Rattle.writes.specs.Records.{recorded}
 use Rattle.writes.specs.declared.Access.{Access}
-use Rattle.writes.specs.declared.Found.{Found}
 use Rattle.writes.specs.declared.Write.{Write}
 
 -- what a taken step leaves
@@ -45,13 +46,13 @@ taken_stands m ws s fits t =
     stand (n + 1) _ us
     (acted_fits (n + 1) next us (raised n next us t.steps done) i here s.verb _ known t.range rank (value_fits n m ws fits a))
 
--- what a step leaves that is decided by a number
-decided_stands : (r : ℕ) (m : Machine) (ws : List Write) (s : Step) (a : Access) (f : Found) → stands m ws ≡ true
-    → (r ≡ 0 → stands (taken_by m s a f).machine (recorded a m.held ws) ≡ true)
-    → stands (decided_by r m s a f).done.machine (recorded (decided_by r m s a f).wrote m.held ws) ≡ true
+-- what a step leaves that is decided by a reason or none
+decided_stands : (o : Option Reason) (m : Machine) (ws : List Write) (s : Step) (a : Access) (f : Option ℕ) → stands m ws ≡ true
+    → (o ≡ None → stands (taken_by m s a f).machine (recorded a m.held ws) ≡ true)
+    → stands (decided_by o m s a f).done.machine (recorded (decided_by o m s a f).wrote m.held ws) ≡ true
 unfolding recorded
-decided_stands zero m ws s a f e h = h refl
-decided_stands (suc r) m ws s a f e h = e
+decided_stands None m ws s a f e h = h refl
+decided_stands (Some r) m ws s a f e h = e
 
 -- A step leaves a standing state standing.
 pub standing_kept : StandingKept

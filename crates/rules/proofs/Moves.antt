@@ -1,16 +1,19 @@
 -- The moves of a machine: one field for each, and the one proof that unfolds the step. Assumes nothing.
 use mathlib.Core.Path.{◌≡◌, refl, ◌∙◌}
-use mathlib.Core.Bool.{Bool, true, false, not}
+use mathlib.Core.Bool.{Bool, true, false}
 use mathlib.Core.List.{List}
-use Prim.Native.Nat.{ℕ, zero, suc, ◌+◌, ◌-◌, ◌<◌, ◌≤◌}
+use Prim.Native.Nat.{ℕ, ◌+◌, ◌-◌, ◌<◌, ◌≤◌}
 use native.Mathlib.Omega.{arith}
 use borrow.Author.Tests.{eqb-true, leb-false, ltb-false}
 use lib.Dec.{eqb}
 use lib.ListN.{length}
-use Rattle.accesses.specs.Accesses.{full, outdated, present, amiss}
+use Rattle.accesses.specs.Accesses.{full, outdated, amiss}
+use Rattle.std.specs.Prelude.{Option, Some}
+use Rattle.std.specs.Prelude as std
 use Rattle.atomic.specs.Atomic.{read_atomic, swap_if, swapped_of}
 use Rattle.laws.proofs.Tests.{neither}
 use Rattle.places.specs.Places.{due_at}
+use Rattle.rules.proofs.Access.{shown, hidden}
 use Rattle.rules.proofs.Accessed.{accessed_place}
 use Rattle.rules.specs.Access.{slot_cell, access_of, found_by, accessed}
 use Rattle.rules.specs.Calls.{goes_on, status_name, looks, won_to, swaps, closes, resumed, won_answer, acted}
@@ -32,14 +35,14 @@ use Rattle.state.specs.declared.Place.{Place}
 use Rattle.state.specs.declared.Place.TheVariants.{Idle, PutStatus, PutSwap, PutWrite, PutPublish, TakeStatus, TakeSwap, TakeRead, TakeFree}
 use Rattle.step.specs.declared.Answer.{Answer}
 use Rattle.step.specs.declared.Answer.TheVariants.{Dash, Ok, Value, Yes, No, None, Got, Refused}
+use Rattle.step.specs.declared.LineKind.TheVariants.{Begins}
+use Rattle.step.specs.declared.Reason.{Reason}
 use Rattle.step.specs.declared.Step.{Step}
 use Rattle.step.specs.declared.Verb.{Verb}
 use Rattle.step.specs.declared.Verb.TheVariants.{Get, Set, Load, Store, Swap, Put, Take, Go, GoAt}
 use Rattle.verbs.specs.Verbs.{among, asks, named}
 use Rattle.writes.specs.Records.{recorded}
 use Rattle.writes.specs.declared.Access.TheVariants.{Reads, Writes}
-use Rattle.writes.specs.declared.Found.{Found}
-use Rattle.writes.specs.declared.Found.TheVariants.{Missing, Present}
 use Rattle.writes.specs.declared.Write.{Write}
 
 -- What holds after each taken step of thread i: of its verb, its answer, and the machine and list that it leaves.
@@ -74,26 +77,10 @@ pub record Moves (m : Machine) (ws : List Write) (i : ℕ) (P : Verb → Answer 
   pub take_ends : (t w : ℕ) (n : Machine) → place m i ≡ TakeFree t w
       → Storing m i (status_name m t) (free_status (lapped m.shape.slots t)) Idle n → P Go (Got w) n ws
 
--- what a plain access found whose test of refusal 13 does not hold
-pub shown : (f : Found) → not (present f) ≡ false → f ≡ Present (value_of f)
-shown Missing e = cc
-shown (Present v) e = refl
-
-pub hidden : (f : Found) → present f ≡ false → f ≡ Missing
-hidden Missing e = refl
-hidden (Present v) e = cc
-
 -- a call or an access begins at an idle place only
-idle : (p : Place) → 0 ≡ due_at p → p ≡ Idle
+idle : (p : Place) → Begins ≡ due_at p → p ≡ Idle
 idle Idle e = refl
-idle (PutStatus h w) e = absurd (omega arith)
-idle (PutSwap h w) e = absurd (omega arith)
-idle (PutWrite h w) e = absurd (omega arith)
-idle (PutPublish h) e = absurd (omega arith)
-idle (TakeStatus t) e = absurd (omega arith)
-idle (TakeSwap t) e = absurd (omega arith)
-idle (TakeRead t) e = absurd (omega arith)
-idle (TakeFree t w) e = absurd (omega arith)
+idle p e = cc
 
 module _ (m : Machine) (ws : List Write) (i : ℕ) (P : Verb → Answer → Machine → List Write → Type 0) (W : Whole m) (B : Bounds m.shape)
     (l : i < 8) (k : ℕ) (A : Moves m ws i P) where
@@ -166,31 +153,23 @@ module _ (m : Machine) (ws : List Write) (i : ℕ) (P : Verb → Answer → Mach
   by_verb (Swap x u v) p e d n f o a = exchanged x (x - 1) u v (flagged x n) (e ∙ idle p d)
   by_verb (Put w) p e d n f o a = A.put_begins w _ (e ∙ idle p d) (is_looking m i W l _ k Head)
   by_verb Take p e d n f o a = A.take_begins _ (e ∙ idle p d) (is_looking m i W l _ k Tail)
-  by_verb Go Idle e d n f o a = absurd (omega arith)
   by_verb Go (PutStatus h w) e d n f o a = rw e (looked h (free_status h) (PutSwap h w) No (λ x. A.put_sees h w x e) (λ x. A.put_stops h w x e))
   by_verb Go (PutSwap h w) e d n f o a = rw e (swapped Head h (PutWrite h w) No tt (λ x. A.put_wins h w x e) (λ x. A.put_loses h w x e))
-  by_verb Go (PutWrite h w) e d n f o a = absurd (omega arith)
   by_verb Go (PutPublish h) e d n f o a = rw e (A.put_ends h _ e (is_storing m i W l Idle k (status_name m h) (full_status h) (slotted h)))
   by_verb Go (TakeStatus t) e d n f o a = rw e (looked t (full_status t) (TakeSwap t) None (λ x. A.take_sees t x e) (λ x. A.take_stops t x e))
   by_verb Go (TakeSwap t) e d n f o a = rw e (swapped Tail t (TakeRead t) None tt (λ x. A.take_wins t x e) (λ x. A.take_loses t x e))
-  by_verb Go (TakeRead t) e d n f o a = absurd (omega arith)
   by_verb Go (TakeFree t w) e d n f o a =
       rw e (A.take_ends t w _ e (is_storing m i W l Idle k (status_name m t) (free_status (lapped m.shape.slots t)) (slotted t)))
-  by_verb (GoAt z) Idle e d n f o a = absurd (omega arith)
-  by_verb (GoAt z) (PutStatus h w) e d n f o a = absurd (omega arith)
-  by_verb (GoAt z) (PutSwap h w) e d n f o a = absurd (omega arith)
+  by_verb Go p e d n f o a = absurd cc
   by_verb (GoAt z) (PutWrite h w) e d n f o a =
       rw (accessed_place m i (Writes (slot_cell m.shape h) z w) i, e)
       (A.put_writes h w z _ _ e (filed (slot_cell m.shape h) z w (PutPublish h) f o a))
-  by_verb (GoAt z) (PutPublish h) e d n f o a = absurd (omega arith)
-  by_verb (GoAt z) (TakeStatus t) e d n f o a = absurd (omega arith)
-  by_verb (GoAt z) (TakeSwap t) e d n f o a = absurd (omega arith)
   by_verb (GoAt z) (TakeRead t) e d n f o a = rw e (A.take_reads t z _ _ e (fetched (slot_cell m.shape t) z (TakeFree t _) o a))
-  by_verb (GoAt z) (TakeFree t w) e d n f o a = absurd (omega arith)
+  by_verb (GoAt z) p e d n f o a = absurd cc
 
 -- what a step leaves: nothing new if it is refused, else what its move says
 pub by_moves : (m : Machine) (ws : List Write) (s : Step) (P : Verb → Answer → Machine → List Write → Type 0) → Whole m
-    → ((k : ℕ) → P s.verb (Refused (suc k)) m ws)
+    → ((r : Reason) → P s.verb (Refused r) m ws)
     → (s.thread - 1 < m.shape.threads → Moves m ws (s.thread - 1) P)
     → P s.verb (step_of m ws s).done.answer (step_of m ws s).done.machine (step_of m ws s).writes
 unfolding step_of decided_of taken_by recorded refusal_of
@@ -207,9 +186,9 @@ by_moves m ws s P W still A = go (refusal_of m ws s) refl
         by_verb m ws i P W B (omega (arith, t.thread, B.threads)) (m.steps + 1) (A (omega (arith, t.thread))) s.verb (place m i) refl
         t.due t.names t.room c.0 c.1
 
-    go : (r : ℕ) → refusal_of m ws s ≡ r
-        → P s.verb (decided_by r m s (asked m s) (found_by m ws (asked m s))).done.answer
-        (decided_by r m s (asked m s) (found_by m ws (asked m s))).done.machine
-        (recorded (decided_by r m s (asked m s) (found_by m ws (asked m s))).wrote m.held ws)
-    go zero e = taken (passed _ _ _ _ _ _ e)
-    go (suc r) e = still r
+    go : (o : Option Reason) → refusal_of m ws s ≡ o
+        → P s.verb (decided_by o m s (asked m s) (found_by m ws (asked m s))).done.answer
+        (decided_by o m s (asked m s) (found_by m ws (asked m s))).done.machine
+        (recorded (decided_by o m s (asked m s) (found_by m ws (asked m s))).wrote m.held ws)
+    go std.None e = taken (passed _ _ _ _ _ _ e)
+    go (Some r) e = still r

@@ -8,7 +8,7 @@ use native.Mathlib.Decide.{ℕ_discrete, dec_lt}
 use native.Mathlib.Omega.{arith}
 use borrow.Author.Tests.{eq-eqb}
 use lib.ListN.{length, set}
-use Rattle.accesses.specs.Accesses.{present}
+use Rattle.std.specs.Prelude.{Option, Some, None, is_some}
 use Rattle.atomic.specs.Atomic.{met, told}
 use Rattle.laws.proofs.Lists.{set_here, set_else}
 use Rattle.laws.specs.Tests.{◌and◌}
@@ -28,13 +28,11 @@ use Rattle.view.specs.declared.View.{View}
 use Rattle.writes.proofs.History.{found_more}
 use Rattle.writes.specs.History.{earlier, shown_by, found}
 use Rattle.writes.specs.Records.{no_write, nth, write}
-use Rattle.writes.specs.declared.Found.{Found}
-use Rattle.writes.specs.declared.Found.TheVariants.{Missing, Present}
 use Rattle.writes.specs.declared.Write.{Write}
 
 -- stamp t is in the history of the cell at j of a view, in the first n records
 abbrev pub Shows : (ℕ → ℕ) → List Write → ℕ → ℕ → ℕ → Type 0
-Shows first ws n j t = present (found (first (j + 1 - 1)) ws (j + 1) t n) ≡ true
+Shows first ws n j t = is_some (found (first (j + 1 - 1)) ws (j + 1) t n) ≡ true
 
 -- every stamp of a view, of k cells
 abbrev pub ShowsAll : ℕ → (ℕ → ℕ) → List Write → ℕ → View → Type 0
@@ -48,30 +46,30 @@ pub record Recalled (k : ℕ) (first : ℕ → ℕ) (m : Machine) (ws : List Wri
   pub positive : (i : ℕ) → i < m.held → 0 < (nth ws i).stamp
 
 -- what was shown is shown after one record more
-earlier_shows : (f g : Found) → present f ≡ true → present (earlier f g) ≡ true
-earlier_shows Missing g e = cc
-earlier_shows (Present v) g e = refl
+earlier_shows : (f g : Option ℕ) → is_some f ≡ true → is_some (earlier f g) ≡ true
+earlier_shows None g e = cc
+earlier_shows (Some v) g e = refl
 
 -- a record shows its value at its cell and stamp
-shown_here : (w : Write) (c t : ℕ) → w.cell ≡ c → w.stamp ≡ t → shown_by w c t ≡ Present w.value
+shown_here : (w : Write) (c t : ℕ) → w.cell ≡ c → w.stamp ≡ t → shown_by w c t ≡ Some w.value
 unfolding shown_by ◌and◌
 shown_here w c t p q = rw (eq-eqb w.cell c p, eq-eqb w.stamp t q)
 
 -- a stamp that is not in the history is no record's
-absent : (first : ℕ) (ws : List Write) (c t n : ℕ) → found first ws c t n ≡ Missing
+absent : (first : ℕ) (ws : List Write) (c t n : ℕ) → found first ws c t n ≡ None
     → (i : ℕ) → i < n → (nth ws i).cell ≡ c → (nth ws i).stamp ≡ t → ⊥
 unfolding found
 absent first ws c t zero e i l p q = omega arith
 absent first ws c t (suc n) e i l p q = go (found first ws c t n) e (dec_lt i n) (λ d r. absent first ws c t n d i r p q) refl
   where
-    go : (f : Found) → earlier f (shown_by (nth ws n) c t) ≡ Missing → Dec (i < n) → (found first ws c t n ≡ Missing → i < n → ⊥)
+    go : (f : Option ℕ) → earlier f (shown_by (nth ws n) c t) ≡ None → Dec (i < n) → (found first ws c t n ≡ None → i < n → ⊥)
         → found first ws c t n ≡ f → ⊥
-    go Missing h (yes r) before d = before d r
-    go Missing h (no r) before d =
+    go None h (yes r) before d = before d r
+    go None h (no r) before d =
         let k : i ≡ n = omega arith in
         let shown = shown_here (nth ws n) c t (sym (ap (λ (y : ℕ). (nth ws y).cell) k) ∙ p) (sym (ap (λ (y : ℕ). (nth ws y).stamp) k) ∙ q) in
-        let z : ◌≡◌ {A = ℕ} 0 1 = cc in omega arith
-    go (Present v) h r before d = let z : ◌≡◌ {A = ℕ} 0 1 = cc in omega arith
+        cc
+    go (Some v) h r before d = cc
 
 module _ (m : Machine) (ws : List Write) (i : ℕ) (W : Whole m) (B : Bounds m.shape) (K : Recalled (cells_of m) (first_of m) m ws) where
   abbrev Now : Machine → List Write → Type 0
@@ -151,7 +149,7 @@ module _ (m : Machine) (ws : List Write) (i : ℕ) (W : Whole m) (B : Bounds m.s
       wide : b - 1 < length (row m i).at
       wide = omega (arith, W.rows i, B.plain, B.slots)
 
-      now : present (found (first_of m (b - 1)) new b t (suc m.held)) ≡ true
+      now : is_some (found (first_of m (b - 1)) new b t (suc m.held)) ≡ true
       now = rw (found_more (first_of m (b - 1)) ws (write b t v) b t m.held x.room, x.fresh, shown_here (write b t v) b t refl refl)
 
       mine : ShowsAll (cells_of m) (first_of m) new (suc m.held) (with_stamp (row m i) (b - 1) t)

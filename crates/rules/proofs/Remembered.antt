@@ -7,6 +7,7 @@ use Prim.Native.Nat.{ℕ, suc, ◌+◌, ◌-◌, ◌≤◌}
 use native.Mathlib.Nat.{le_of_eq}
 use native.Mathlib.Omega.{arith}
 use lib.ListN.{length, get_elem?}
+use Rattle.std.specs.Prelude.{Some}
 use Rattle.atomic.specs.Atomic.{met, told}
 use Rattle.rules.specs.Access.{slot_cell}
 use Rattle.rules.specs.Calls.{status_name}
@@ -40,7 +41,6 @@ use Rattle.view.specs.View.{stamp_of, with_stamp}
 use Rattle.view.specs.declared.View.{View}
 use Rattle.writes.specs.History.{found, newest, newer}
 use Rattle.writes.specs.Records.{write}
-use Rattle.writes.specs.declared.Found.TheVariants.{Present}
 use Rattle.writes.specs.declared.Newest.{Newest}
 use Rattle.writes.specs.declared.Write.{Write}
 
@@ -111,7 +111,7 @@ module _ (m : Machine) (ws : List Write) (nt : Seen) (i : ℕ) (W : Whole m) (B 
 
   -- a take's read: the newest stamp and no other, and so the newest value
   pub one_stamp : (t s w : ℕ) → place m i ≡ TakeRead t → stamp_of (row m i) (slot_cell m.shape t - 1) ≤ s
-      → found (first_of m (slot_cell m.shape t - 1)) ws (slot_cell m.shape t) s m.held ≡ Present w
+      → found (first_of m (slot_cell m.shape t - 1)) ws (slot_cell m.shape t) s m.held ≡ Some w
       → (s ≡ (newest_now (slot_of c t)).stamp) × (w ≡ (newest_now (slot_of c t)).value)
   unfolding slot_cell
   one_stamp t s w e low shown = (

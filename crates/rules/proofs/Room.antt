@@ -2,9 +2,10 @@
 use mathlib.Core.Path.{◌≡◌, refl}
 use mathlib.Core.Bool.{true}
 use mathlib.Core.List.{List}
-use Prim.Native.Nat.{ℕ, zero, suc, ◌-◌, ◌<◌}
+use Prim.Native.Nat.{ℕ, ◌-◌, ◌<◌}
 use native.Mathlib.Omega.{arith}
 use lib.ListN.{length}
+use Rattle.std.specs.Prelude.{Option, Some, None}
 use Rattle.rules.proofs.Access.{access_fits}
 use Rattle.rules.proofs.Parts.{Known}
 use Rattle.rules.proofs.Standing.{Fits, standing, slot_in}
@@ -17,10 +18,10 @@ use Rattle.refusal.proofs.Passed.{Passed, passed}
 use Rattle.standing.specs.Stands.{stands}
 use Rattle.state.specs.State.{place}
 use Rattle.state.specs.declared.Machine.{Machine}
+use Rattle.step.specs.declared.Reason.{Reason}
 use Rattle.step.specs.declared.Step.{Step}
 use Rattle.verbs.specs.Verbs.{named}
 use Rattle.writes.specs.declared.Access.{Access}
-use Rattle.writes.specs.declared.Found.{Found}
 use Rattle.writes.specs.declared.Write.{Write}
 use Rattle.rules.proofs.RoomSteps.{room_same, room_then, counts_room, accessed_room, acted_room}
 
@@ -39,11 +40,11 @@ taken_room m ws s fits t =
     let slot : (k : ℕ) → Known (accessed m i a).shape (status_name (accessed m i a) k) = rw (accessed_shape m i a) (slot_in _ m ws fits) in
     room_then (room_then done (acted_room (accessed m i a) i here slot s.verb _ known)) (counts_room _ _ _)
 
--- what a step leaves that is decided by a number
-decided_room : (r : ℕ) (m : Machine) (s : Step) (a : Access) (f : Found) → (r ≡ 0 → SameRoom m (taken_by m s a f).machine)
-    → SameRoom m (decided_by r m s a f).done.machine
-decided_room zero m s a f h = h refl
-decided_room (suc r) m s a f h = room_same m
+-- what a step leaves that is decided by a reason or none
+decided_room : (o : Option Reason) (m : Machine) (s : Step) (a : Access) (f : Option ℕ) → (o ≡ None → SameRoom m (taken_by m s a f).machine)
+    → SameRoom m (decided_by o m s a f).done.machine
+decided_room None m s a f h = h refl
+decided_room (Some r) m s a f h = room_same m
 
 -- No step changes the room that a machine lacks.
 pub room_kept : RoomKept

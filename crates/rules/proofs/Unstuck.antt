@@ -7,7 +7,7 @@ use Prim.Native.Nat.{ℕ, ◌+◌, ◌-◌, ◌<◌, ◌≤◌}
 use native.Mathlib.Omega.{arith}
 use borrow.Author.Tests.{le-ltb}
 use lib.ListN.{length}
-use Rattle.accesses.specs.Accesses.{present}
+use Rattle.std.specs.Prelude.{is_some}
 use Rattle.rules.proofs.Refused.{numbered}
 use Rattle.rules.specs.Access.{slot_cell, stamped_at, access_of, found_by}
 use Rattle.rules.specs.Step.{asked, refusal_of, step_of}
@@ -71,6 +71,6 @@ module _ (m : Machine) (B : Bounds m.shape) where
         let v = stamp_of (row m (s.thread - 1)) (c - 1) in
         let g = subst (Ranged (cells_of m)) e (ranged s.verb (place m (s.thread - 1)) l.0.names) in
         let d : c - 1 + 1 ≡ c = omega arith in
-        let there : present (found_by m ws (asked m s)) ≡ true = rw e (rw d at (K.rows (s.thread - 1) (c - 1) (omega arith))) in
+        let there : is_some (found_by m ws (asked m s)) ≡ true = rw e (rw d at (K.rows (s.thread - 1) (c - 1) (omega arith))) in
         let z : 0 ≡ r = rw (e, le-ltb v v (omega arith), rw e at there) at l.1 in
         omega arith

@@ -4,6 +4,7 @@ use mathlib.Core.Bool.{Bool, true, false}
 use mathlib.Core.List.{List}
 use Prim.Native.Nat.{ℕ, zero, suc, ◌-◌}
 use lib.ListN.{length, get_or, replicate}
+use Rattle.std.specs.Prelude.{Option, Some, None}
 use Rattle.rules.specs.Kept.{FreshWhole, WholeKept}
 use Rattle.laws.proofs.Lists.{set_either, replicated, filled_length}
 use Rattle.laws.specs.Lists.{filled}
@@ -17,18 +18,18 @@ use Rattle.state.specs.declared.Machine.{Machine}
 use Rattle.state.specs.declared.Name.{Name}
 use Rattle.state.specs.declared.Name.TheVariants.{Head, Tail, Flag, Status}
 use Rattle.state.specs.declared.Shape.{Shape}
+use Rattle.step.specs.declared.Reason.{Reason}
 use Rattle.step.specs.declared.Step.{Step}
 use Rattle.view.specs.View.{zero_view}
 use Rattle.writes.specs.declared.Access.{Access}
-use Rattle.writes.specs.declared.Found.{Found}
 use Rattle.rules.proofs.WholeSteps.{whole, counts_whole, accessed_whole, acted_whole}
 
--- what a step leaves that is decided by a number
-decided_whole : (r : ℕ) (m : Machine) (s : Step) (a : Access) (f : Found) → Whole m → Whole (decided_by r m s a f).done.machine
+-- what a step leaves that is decided by a reason or none
+decided_whole : (o : Option Reason) (m : Machine) (s : Step) (a : Access) (f : Option ℕ) → Whole m → Whole (decided_by o m s a f).done.machine
 unfolding taken_by
-decided_whole zero m s a f w =
+decided_whole None m s a f w =
     counts_whole (acted_whole _ (accessed_whole m w (s.thread - 1) a) (s.thread - 1) s.verb (value_of f))
-decided_whole (suc r) m s a f w = w
+decided_whole (Some r) m s a f w = w
 
 -- A step leaves a machine as long as its arrays.
 pub whole_kept : WholeKept

@@ -1,5 +1,5 @@
 -- The plain access that a step makes, if it makes one. Assumes nothing.
-use Rattle.std.specs.Prelude.{List, ℕ, ◌+◌, ◌-◌}
+use Rattle.std.specs.Prelude.{List, ℕ, ◌+◌, ◌-◌, Option}
 use Rattle.rank.specs.Rank.{slot_of}
 use Rattle.state.specs.Fields.{with_held}
 use Rattle.state.specs.State.{cells_of, row, with_row, first_of}
@@ -13,7 +13,6 @@ use Rattle.view.specs.View.{with_stamp}
 use Rattle.writes.specs.History.{found, search_of}
 use Rattle.writes.specs.declared.Access.{Access}
 use Rattle.writes.specs.declared.Access.TheVariants.{NoAccess, Reads, Writes}
-use Rattle.writes.specs.declared.Found.{Found}
 use Rattle.writes.specs.declared.Looked.{Looked}
 use Rattle.writes.specs.declared.Write.{Write}
 
@@ -56,7 +55,7 @@ stamp_asked (Reads c t) = t
 stamp_asked (Writes c t v) = t
 
 -- what the cell's history has at the stamp
-unfoldable pub found_by : Machine → List Write → Access → Found
+unfoldable pub found_by : Machine → List Write → Access → Option ℕ
 found_by m ws a = found (first_of m (cell_asked a - 1)) ws (cell_asked a) (stamp_asked a) m.held
 
 -- one search answers all that a step asks of the list

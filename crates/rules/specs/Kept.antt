@@ -9,6 +9,7 @@ use Rattle.state.specs.declared.Name.{Name}
 use Rattle.state.specs.declared.Name.TheVariants.{Head, Tail, Flag, Status}
 use Rattle.state.specs.declared.Shape.{Shape}
 use Rattle.step.specs.Answer.{number_of}
+use Rattle.step.specs.Reason.{number_by}
 use Rattle.step.specs.declared.Step.{Step}
 use Rattle.view.specs.View.{stamp_of}
 use Rattle.writes.specs.declared.Write.{Write}
@@ -18,7 +19,7 @@ number_given m ws s = number_of (step_of m ws s).done.answer
 
 -- The number that a step is answered with is that of the first refusal in order, 0 where none is given.
 abbrev pub Numbered : Type 0
-Numbered = (m : Machine) (ws : List Write) (s : Step) → number_given m ws s ≡ refusal_of m ws s
+Numbered = (m : Machine) (ws : List Write) (s : Step) → number_given m ws s ≡ number_by (refusal_of m ws s)
 
 -- A step's number is 0, or one of 6 to 14.
 abbrev pub StepNumbered : Type 0

@@ -11,6 +11,9 @@ use Rattle.state.specs.declared.Machine.{Machine}
 use Rattle.step.specs.Answer.{number_of}
 use Rattle.step.specs.declared.Answer.{Answer}
 use Rattle.step.specs.declared.Answer.TheVariants.{Dash, Ok, Value, Yes, No, None, Got, Refused}
+use Rattle.step.specs.declared.LineKind.{LineKind}
+use Rattle.step.specs.declared.LineKind.TheVariants.{Begins, Goes, GoesAt}
+use Rattle.step.specs.declared.Reason.{Reason}
 use Rattle.step.specs.declared.Step.{Step}
 use Rattle.step.specs.declared.Verb.TheVariants.{GoAt}
 use Rattle.verbs.specs.Verbs.{asks}
@@ -58,7 +61,7 @@ pub record Gets (c m : ℕ) (n : Seen) (v : View) (k r w : ℕ) : Type 0 where
 -- 1. "the won calls' answers are those of" that list, "a call answered no or none leaves that list as it was": what a call that
 -- has had k steps may be answered, and nothing else; one that has had three has won. Outside a call, an access.
 pub data Says (c m : ℕ) (n : Seen) (v : View) : Call → Answer → Type 0 where
-  refused : {q : Call} {k : ℕ} → 0 < k → Says c m n v q (Refused k)
+  refused : {q : Call} {r : Reason} → Says c m n v q (Refused r)
   access_ok : Says c m n v no_call Ok
   access_value : {x : ℕ} → Says c m n v no_call (Value x)
   access_yes : Says c m n v no_call Yes
@@ -70,11 +73,11 @@ pub data Says (c m : ℕ) (n : Seen) (v : View) : Call → Answer → Type 0 whe
   take_got : {k r w : ℕ} → Gets c m n v k r w → Says c m n v (taking k r) (Got w)
   take_none : {k r : ℕ} → k < 3 → Says c m n v (taking k r) None
 
--- the kind of line that is due: inside a call a `go`, with a stamp at its fourth step; outside, none
-abbrev pub due : Call → ℕ
-due no_call = 0
-due (putting w k r) = cond (eqb k 3) 2 1
-due (taking k r) = cond (eqb k 3) 2 1
+-- the kind of line that is due: inside a call a `go`, with a stamp at its fourth step; outside, one that begins a call or is an access
+abbrev pub due : Call → LineKind
+due no_call = Begins
+due (putting w k r) = cond (eqb k 3) GoesAt Goes
+due (taking k r) = cond (eqb k 3) GoesAt Goes
 
 -- 1, 3, 4. What is promised of an entry, by the log before it. A taken line is due: so each call ends once, and after that a `go` is refused.
 pub record Right (c m : ℕ) (e : Entry) (es : List Entry) : Type 0 where

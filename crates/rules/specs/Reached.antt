@@ -1,6 +1,5 @@
 -- What holds of every state that is reached from a fresh machine. Assumes nothing.
-use Rattle.std.specs.Prelude.{◌≡◌, true, List, ◌≢◌, ℕ, ◌+◌, ◌-◌, ◌<◌, ◌≤◌}
-use Rattle.accesses.specs.Accesses.{present}
+use Rattle.std.specs.Prelude.{◌≡◌, true, List, ◌≢◌, ℕ, ◌+◌, ◌-◌, ◌<◌, ◌≤◌, is_some}
 use Rattle.rules.specs.Kept.{number_given}
 use Rattle.rules.specs.Step.{asked}
 use Rattle.rules.specs.Log.{Point, Throughout, thread_of}
@@ -17,7 +16,7 @@ use Rattle.writes.specs.declared.Write.{Write}
 
 -- stamp t is in the history of the cell that a record numbers c
 abbrev pub InHistory : Machine → List Write → ℕ → ℕ → Type 0
-InHistory m ws c t = present (found (first_of m (c - 1)) ws c t m.held) ≡ true
+InHistory m ws c t = is_some (found (first_of m (c - 1)) ws c t m.held) ≡ true
 
 -- every stamp of a view of k cells is in its cell's history
 abbrev pub AllInHistory : ℕ → Machine → List Write → View → Type 0

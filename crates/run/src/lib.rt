@@ -17,10 +17,10 @@ pub fn run_steps(text: &[u8], s: Section, mut m: Machine, out: &mut [u8]) -> End
 {
     let mut ws = turn::no_writes();
     let mut g = turn::begin(text, s);
-    while g.ahead.on {
-        let done = machine::step_by(m, &mut ws, g.ahead.asked);
+    while let Some(asked) = g.ahead.asked {
+        let done = machine::step_by(m, &mut ws, asked);
         m = done.machine;
-        g = turn::go_on(text, out, g, done.answer);
+        g = turn::go_on(text, out, g, asked.step, done.answer);
     }
     turn::finish(m, g, ws)
 }

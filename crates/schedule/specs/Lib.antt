@@ -1,2 +1,2 @@
 pub mod Sections
-pub mod Judging
+pub mod Reading

@@ -1,11 +1,10 @@
 // The machine's state by value, and the accessors of its places: total in every index; but for `image` and `words` none else has one.
 #![tactic(auto)]
 
-ghost use Rattle.std.specs.Prelude.{◌≡◌, ◌-◌, get_or, set};
-ghost use Rattle.view.specs.View.{zero_view};
-ghost use Rattle.state.specs.declared.Place.TheVariants.{Idle};
-ghost use Rattle.state.specs.State.{at, zero_atomic, row, with_row, place, with_place, atomic_at, with_atomic, first_of, cells_of};
+ghost use Rattle.std.specs.Prelude.{◌≡◌, ◌-◌, get_or};
+ghost use Rattle.state.specs.State.{zero_atomic, row, with_row, place, with_place, atomic_at, with_atomic, first_of, cells_of};
 
+use laws::with_item;
 use view::{View, zero_view};
 
 // An atomic cell holds one value and one view.
@@ -93,34 +92,24 @@ pub fn row_of(m: Machine, i: usize) -> View
     ensures { result ≡ row m i }
 {
     let views = m.views;
-    row_in(views, i)
+    item_in(views, i, zero_view())
 }
 
 // An index goes into an array of its own and never into the whole machine: the compiler then copies that array alone.
-fn row_in(views: [View; 8], i: usize) -> View
-    ensures { result ≡ get_or views i zero_view }
+fn item_in<T: Copy, const N: usize>(s: [T; N], i: usize, none: T) -> T
+    ensures { result ≡ get_or s i none }
 {
-    if i < 8 { views[i] } else { zero_view() }
+    if i < N { s[i] } else { none }
 }
 
-// One row replaced, all others kept.
+// One row replaced, all others kept. Each array of the machine has a function of its own for that: a field is no parameter.
 pub fn with_row(m: Machine, i: usize, v: View) -> Machine
     ensures { result ≡ with_row m i v }
 {
     let views = m.views;
-    let changed = rows_with(views, i, v);
+    let changed = with_item(views, i, v);
     let mut next = m;
     next.views = changed;
-    next
-}
-
-fn rows_with(views: [View; 8], i: usize, v: View) -> [View; 8]
-    ensures { result ≡ set views i v }
-{
-    let mut next = views;
-    if i < 8 {
-        next[i] = v;
-    }
     next
 }
 
@@ -129,38 +118,18 @@ pub fn place_of(m: Machine, i: usize) -> Place
     ensures { result ≡ place m i }
 {
     let threads = m.threads;
-    let thread = thread_in(threads, i);
-    let p = thread.place;
-    p
-}
-
-fn thread_in(threads: [Thread; 8], i: usize) -> Thread
-    ensures { result ≡ get_or threads i (at Idle) }
-{
-    if i < 8 {
-        threads[i]
-    } else {
-        Thread { place: Place::Idle }
-    }
+    let idle = Thread { place: Place::Idle };
+    let thread = item_in(threads, i, idle);
+    thread.place
 }
 
 pub fn with_place(m: Machine, i: usize, p: Place) -> Machine
     ensures { result ≡ with_place m i p }
 {
     let threads = m.threads;
-    let changed = threads_with(threads, i, p);
+    let changed = with_item(threads, i, Thread { place: p });
     let mut next = m;
     next.threads = changed;
-    next
-}
-
-fn threads_with(threads: [Thread; 8], i: usize, p: Place) -> [Thread; 8]
-    ensures { result ≡ set threads i (at p) }
-{
-    let mut next = threads;
-    if i < 8 {
-        next[i] = Thread { place: p };
-    }
     next
 }
 
@@ -172,25 +141,13 @@ pub fn atomic_of(m: Machine, name: Name) -> Atomic
         Name::Tail => m.tail,
         Name::Flag(f) => {
             let flags = m.flags;
-            flag_in(flags, f)
+            item_in(flags, f, zero_atomic())
         }
         Name::Status(s) => {
             let statuses = m.statuses;
-            status_in(statuses, s)
+            item_in(statuses, s, zero_atomic())
         }
     }
-}
-
-fn flag_in(flags: [Atomic; 8], f: usize) -> Atomic
-    ensures { result ≡ get_or flags f zero_atomic }
-{
-    if f < 8 { flags[f] } else { zero_atomic() }
-}
-
-fn status_in(statuses: [Atomic; 16], s: usize) -> Atomic
-    ensures { result ≡ get_or statuses s zero_atomic }
-{
-    if s < 16 { statuses[s] } else { zero_atomic() }
 }
 
 pub fn with_atomic(m: Machine, name: Name, a: Atomic) -> Machine
@@ -208,55 +165,29 @@ pub fn with_atomic(m: Machine, name: Name, a: Atomic) -> Machine
         }
         Name::Flag(f) => {
             let flags = m.flags;
-            let changed = flags_with(flags, f, a);
+            let changed = with_item(flags, f, a);
             next.flags = changed;
             next
         }
         Name::Status(s) => {
             let statuses = m.statuses;
-            let changed = statuses_with(statuses, s, a);
+            let changed = with_item(statuses, s, a);
             next.statuses = changed;
             next
         }
     }
 }
 
-fn flags_with(flags: [Atomic; 8], f: usize, a: Atomic) -> [Atomic; 8]
-    ensures { result ≡ set flags f a }
-{
-    let mut next = flags;
-    if f < 8 {
-        next[f] = a;
-    }
-    next
-}
-
-fn statuses_with(statuses: [Atomic; 16], s: usize, a: Atomic) -> [Atomic; 16]
-    ensures { result ≡ set statuses s a }
-{
-    let mut next = statuses;
-    if s < 16 {
-        next[s] = a;
-    }
-    next
-}
-
 // The value of the first write at entry i of a view: the given one of a plain cell, zero of a slot.
 pub fn first_of(m: Machine, i: usize) -> u32
     ensures { result ≡ first_of m i }
 {
-    let shape = m.shape;
-    if i < (shape.plain as usize) {
+    if i < (m.shape.plain as usize) {
         let firsts = m.firsts;
-        return given_in(firsts, i);
+        item_in(firsts, i, 0)
+    } else {
+        0
     }
-    0
-}
-
-fn given_in(firsts: [u32; 16], i: usize) -> u32
-    ensures { result ≡ get_or firsts i 0 }
-{
-    if i < 16 { firsts[i] } else { 0 }
 }
 
 // Threads, cells and flags count from 1: the place in a list is one less.

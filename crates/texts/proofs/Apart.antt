@@ -6,19 +6,19 @@ use mathlib.Core.Logic.{⊎_elim}
 use Prim.Native.Nat.{ℕ, ◌+◌, ◌≤◌, ◌<◌}
 use native.Mathlib.Nat.{eq-or-lt_of_le}
 use native.Mathlib.Omega.{arith}
-use borrow.Author.Tests.{eqb-true, eq-eqb}
+use borrow.Author.Tests.{eq-eqb}
 use lib.Dec.{leb, eqb}
 use lib.ListN.{length, get_or}
 use Rattle.form.specs.Table.{form_total, forms, form_at, word_of, kind_a, kind_b, kind_c}
 use Rattle.form.specs.Text.{operand_text, word_text, form_text}
 use Rattle.form.specs.declared.Kind.{Kind}
 use Rattle.form.specs.declared.Kind.TheVariants.{Nothing, Count, Thousandths}
-use Rattle.texts.proofs.OnlyLines.{Fits, end_is}
-use Rattle.texts.proofs.Operands.{Formed, place_in, after_word_lem}
-use Rattle.operand.specs.Operand.{spaced, operand_at, after_operand, after_word}
-use Rattle.line.specs.Row.{closed, form_row}
-use Rattle.operand.specs.declared.Operand.{Operand}
-use Rattle.operand.specs.declared.Operand.TheVariants.{Good, OutOfRange, NoForm}
+use Rattle.texts.proofs.OnlyLines.{Parts, row_parts}
+use Rattle.texts.proofs.Operands.{byte_is, word_is}
+use Rattle.operand.specs.Operand.{Number, byte, operand_at}
+use Rattle.line.specs.Row.{Row, form_row}
+use Rattle.digits.proofs.Digits.{after_ok}
+use Rattle.std.specs.Prelude.{Ok}
 use Rattle.laws.proofs.Choice.{either, split, and_left, and_right}
 use Rattle.laws.proofs.Tests.{each}
 use Rattle.laws.specs.Tests.{◌and◌, all_below}
@@ -112,65 +112,36 @@ text_head i s p a b c l h =
     )
 
 -- and so does a line that fits the row
-after_formed : (s : List ℕ) (m : Operand) (k : Kind) → Formed (after_operand s m k) → Formed m
-after_formed s (Good v p) k g = tt
-after_formed s (OutOfRange n p) k g = tt
-after_formed s (NoForm x) k g = g
+operand_follow : (k : Kind) (s : List ℕ) (p : ℕ) (r : Number) → nothing k ≡ false → operand_at k s p ≡ Ok r → get_or s p 0 ≡ follow k
+operand_follow Nothing s p r n e = cc
+operand_follow (Count low high) s p r n e = let o = after_ok (byte 32 s p) _ r e in (byte_is 32 s p o.0 o.1).0
+operand_follow Thousandths s p r n e = let o = after_ok (byte 32 s p) _ r e in (byte_is 32 s p o.0 o.1).0
 
-spaced_formed : (k : Kind) (s : List ℕ) (p : ℕ) → Formed (spaced k s p) → get_or s p 0 ≡ 32
-unfolding spaced
-spaced_formed k s p g =
+operand_none : (k : Kind) (s : List ℕ) (p : ℕ) (r : Number) → nothing k ≡ true → operand_at k s p ≡ Ok r → p ≡ r.next
+operand_none Nothing s p r n e = cc
+operand_none (Count low high) s p r n e = cc
+operand_none Thousandths s p r n e = cc
+
+parts_follow : (i : ℕ) (s : List ℕ) (l : Number) (r : Row) → i < form_total → (p : Parts i s l r)
+    → get_or s p.next 0 ≡ follow (kind_a i)
+parts_follow i s l r h p =
+    let ka = kind_a i in let kb = kind_b i in let kc = kind_c i in
     ⊎_elim
-    (λ (x : eqb (get_or s p 0) 32 ≡ true). eqb-true _ _ x)
-    (λ (x : eqb (get_or s p 0) 32 ≡ false). absurd (simp x at g))
-    (either (eqb (get_or s p 0) 32))
+    (λ (x : nothing ka ≡ true).
+    let both = simp x at (row_packed i h) in
+    let e = operand_none ka s p.next p.a x p.a_is in
+    let f = operand_none kb s p.a.next p.b (and_left (nothing kb) (nothing kc) both) p.b_is in
+    let g = operand_none kc s p.b.next p.c (and_right (nothing kb) (nothing kc) both) p.c_is in
+    ap (λ (x : ℕ). get_or s x 0) (e ∙ f ∙ g) ∙ p.lf ∙ ap follow (sym (is_nothing ka x)))
+    (λ (x : nothing ka ≡ false). operand_follow ka s p.next p.a x p.a_is)
+    (either (nothing ka))
 
-operand_formed : (k : Kind) (s : List ℕ) (p : ℕ) → nothing k ≡ false → Formed (operand_at k s p) → get_or s p 0 ≡ follow k
-operand_formed Nothing s p e g = let z : ◌≡◌ {A = ℕ} 0 1 = cc in absurd (omega arith)
-operand_formed (Count low high) s p e g = spaced_formed (Count low high) s p g
-operand_formed Thousandths s p e g = spaced_formed Thousandths s p g
-
-after_follow : (s : List ℕ) (m : Operand) (k : Kind) → nothing k ≡ false → Formed (after_operand s m k) → get_or s (place_in m) 0 ≡ follow k
-after_follow s (Good v p) k e g = operand_formed k s p e g
-after_follow s (OutOfRange n p) k e g = operand_formed k s p e g
-after_follow s (NoForm x) k e g = absurd g
-
-after_nothing : (s : List ℕ) (m : Operand) (k : Kind) → k ≡ Nothing → place_in (after_operand s m k) ≡ place_in m
-after_nothing s m k e = rw e (same m)
-  where
-    same : (m : Operand) → place_in (after_operand s m Nothing) ≡ place_in m
-    same (Good v p) = refl
-    same (OutOfRange n p) = refl
-    same (NoForm x) = refl
-
-fits_follow : (i j k : Kind) (s : List ℕ) (n : ℕ) (l w : Operand) → packed i j k ≡ true
-    → let a = after_operand s w i in let b = after_operand s a j in Fits (closed s n l a b (after_operand s b k))
-    → Formed w × (get_or s (place_in w) 0 ≡ follow i)
-fits_follow i j k s n l w e g =
-    let a = after_operand s w i in
-    let b = after_operand s a j in
-    let end = end_is s n l a b (after_operand s b k) g in
-    let fa = after_formed s a j (after_formed s b k end.0) in (
-      after_formed s w i fa,
-      ⊎_elim
-          (λ (x : nothing i ≡ true).
-          let both = simp x at e in
-          let p = after_nothing s w i (is_nothing i x) in
-          let q = after_nothing s a j (is_nothing j (and_left (nothing j) (nothing k) both)) in
-          let r = after_nothing s b k (is_nothing k (and_right (nothing j) (nothing k) both)) in
-          ap (λ (x : ℕ). get_or s x 0) (sym p ∙ sym q ∙ sym r) ∙ end.1.stands.0 ∙ ap follow (sym (is_nothing i x)))
-          (λ (x : nothing i ≡ false). after_follow s w i x fa)
-          (either (nothing i)),
-    )
-
-fits_head : (i : ℕ) (s : List ℕ) (l : Operand) → i < form_total → Fits (form_row i s l) → Stands s (place_in l) (head i)
-unfolding form_row head
-fits_head i s l h g =
-    let w = word_text (word_of i) in
-    let m = after_word s l (word_of i) in
-    let f = fits_follow (kind_a i) (kind_b i) (kind_c i) s i l m (row_packed i h) g in
-    let here = after_word_lem s l (word_of i) f.0 in
-    stands_append s (place_in l) w (follow (kind_a i) ∷ []) here.stands (rw (← here.next) (f.1, tt))
+fits_head : (i : ℕ) (s : List ℕ) (l : Number) (r : Row) → i < form_total → form_row i s l ≡ Ok r → Stands s l.next (head i)
+unfolding head
+fits_head i s l r h e =
+    let p = row_parts i s l r e in
+    let here = word_is (word_of i) s l.next p.next p.word_is in
+    stands_append s l.next (word_text (word_of i)) (follow (kind_a i) ∷ []) here.stands (rw (← here.next) (parts_follow i s l r h p, tt))
 
 -- so two rows that begin at one place are one
 pub one_row : (i j : ℕ) (s : List ℕ) (p : ℕ) → i < form_total → j < form_total → Stands s p (head i) → Stands s p (head j) → i ≡ j
@@ -186,7 +157,8 @@ one_row i j s p hi hj x y =
         differ_not (head i) (head j) s p x y (each (λ i. differ (head i) (head j)) j (each apart form_total all_apart j h) i q)
 
 -- where a row's text stands, no earlier row fits
-pub others : (i j : ℕ) (s : List ℕ) (l : Operand) (a b c : ℕ) → i < form_total → j < i → Stands s (place_in l) (form_text i a b c) → Fits (form_row j s l) → ⊥
-others i j s l a b c h q st g =
-    let e = one_row j i s (place_in l) (omega arith) h (fits_head j s l (omega arith) g) (text_head i s (place_in l) a b c h st) in
+pub others : (i j : ℕ) (s : List ℕ) (l : Number) (a b c : ℕ) → i < form_total → j < i → Stands s l.next (form_text i a b c)
+    → (r : Row) → form_row j s l ≡ Ok r → ⊥
+others i j s l a b c h q st r e =
+    let o = one_row j i s l.next (omega arith) h (fits_head j s l r (omega arith) e) (text_head i s l.next a b c h st) in
     omega arith

@@ -1,5 +1,5 @@
 -- Every text is taken or refused by 1, 2, 3 or 4, every line read or refused by 2 or 3. Assumes nothing.
-use Prim.Native.Nat.{◌≤◌, ◌<◌}
+use Prim.Native.Nat.{ℕ, ◌≤◌, ◌<◌}
 use mathlib.Core.Bool.{true, false}
 use mathlib.Core.Logic.{⊎_elim}
 use mathlib.Core.Path.{◌≡◌, refl}
@@ -11,12 +11,14 @@ use Rattle.fault.specs.Refusal.{number_of}
 use Rattle.fault.specs.declared.Refusal.{Refusal}
 use Rattle.fault.specs.declared.Refusal.TheVariants.{TooLong, BadForm, BadRange, Extra}
 use Rattle.laws.proofs.Choice.{either}
-use Rattle.line.specs.Row.{due_row, line_read, read_line, read_number}
-use Rattle.line.specs.declared.Row.{Row}
-use Rattle.line.specs.declared.Row.TheVariants.{NotForm, RangeAt, Read}
+use Rattle.form.specs.declared.Fields.{Fields}
+use Rattle.line.specs.Row.{Row, due_row, line_of_row, line_read, read_line, read_number}
+use Rattle.operand.specs.declared.OutOfRange.{OutOfRange}
+use Rattle.digits.specs.declared.Stopped.{Stopped}
+use Rattle.std.specs.Prelude.{Result, Ok, Err}
 use Rattle.schedule.specs.Sections.{judged, sections}
-use Rattle.schedule.specs.declared.Judged.{Judged}
-use Rattle.schedule.specs.declared.Judged.TheVariants.{Refused, Taken}
+use Rattle.schedule.specs.declared.Sections.{Sections}
+use Rattle.std.specs.Prelude.{Result, Ok, Err}
 use Rattle.texts.proofs.Places.{JudgedIn, sections_in}
 use Rattle.texts.specs.Promise.{LineNumbered, JudgedNumbered}
 use Rattle.texts.specs.Schedule.{judged_number}
@@ -25,10 +27,14 @@ pub line_numbered : LineNumbered
 unfolding read_line
 line_numbered due s at = go (due_row due s at)
   where
-    go : (r : Row) → 0 < read_number (line_read due at r) → (2 ≤ read_number (line_read due at r)) × (read_number (line_read due at r) ≤ 3)
-    go (Read f p) h = absurd (omega arith)
-    go (RangeAt n) h = (omega arith, omega arith)
-    go (NotForm x) h = (omega arith, omega arith)
+    value : (v : Result Fields OutOfRange) (p : ℕ)
+        → let x = line_of_row due at v p in 0 < read_number x → (2 ≤ read_number x) × (read_number x ≤ 3)
+    value (Ok f) p h = absurd (omega arith)
+    value (Err n) p h = (omega arith, omega arith)
+
+    go : (r : Result Row Stopped) → let x = line_read due at r in 0 < read_number x → (2 ≤ read_number x) × (read_number x ≤ 3)
+    go (Ok r) h = value r.value r.next h
+    go (Err x) h = (omega arith, omega arith)
 
 four : (r : Refusal) → number_of r ≤ 4
 four TooLong = omega arith
@@ -44,7 +50,7 @@ judged_numbered s =
     (λ (l : ltb 65536 (length s) ≡ false). rw l (go (sections s) (sections_in s) (ltb-false _ _ l)))
     (either (ltb 65536 (length s)))
   where
-    go : (j : Judged) → JudgedIn (length s) j → length s ≤ 65536
+    go : (j : Result Sections Refusal) → JudgedIn (length s) j → length s ≤ 65536
         → (judged_number j ≤ 4) × (judged_number j ≡ 1 → 65536 < length s) × (65536 < length s → judged_number j ≡ 1)
-    go (Taken x) h b = (omega arith, (λ e. absurd (omega arith)), λ l. absurd (omega arith))
-    go (Refused r) h b = (four r, (λ e. absurd (omega (arith, h.1))), λ l. absurd (omega arith))
+    go (Ok x) h b = (omega arith, (λ e. absurd (omega arith)), λ l. absurd (omega arith))
+    go (Err r) h b = (four r, (λ e. absurd (omega (arith, h.1))), λ l. absurd (omega arith))

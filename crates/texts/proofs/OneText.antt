@@ -2,11 +2,11 @@
 use mathlib.Core.Path.{◌≡◌, refl, sym, ap, ◌∙◌}
 use mathlib.Core.Bool.{true, false}
 use mathlib.Core.List.{List, [], ◌∷◌, ◌++◌}
-use Prim.Native.Nat.{ℕ, ◌-◌, ◌/◌, ◌^◌, ◌≤◌, ◌<◌}
+use Prim.Native.Nat.{ℕ, ◌-◌, ◌/◌, ◌^◌, ◌+◌, ◌≤◌, ◌<◌}
 use native.Mathlib.Omega.{arith}
 use borrow.Author.Tests.{leb-true, le-leb, lt-leb}
 use lib.Dec.{leb}
-use lib.ListN.{get_or}
+use lib.ListN.{get_or, length}
 use Rattle.form.specs.Line.{header_form, due_of, fields_of, line_in_range}
 use Rattle.step.specs.Limit.{most}
 use Rattle.form.specs.Range.{in_range}
@@ -17,6 +17,7 @@ use Rattle.form.specs.declared.Due.TheVariants.{HeaderDue, WeightDue, StepDue}
 use Rattle.form.specs.declared.Header.{Header}
 use Rattle.form.specs.declared.Header.TheVariants.{Shape, Threads, Slots, Plain, Flag, Steps}
 use Rattle.form.specs.declared.Kind.TheVariants.{Thousandths}
+use Rattle.digits.specs.declared.Read.{Read}
 use Rattle.form.specs.declared.Line.{Line}
 use Rattle.form.specs.declared.Line.TheVariants.{HeaderLine, WeightLine, StepLine}
 use Rattle.texts.proofs.Apart.{head, text_head, one_row}
@@ -31,13 +32,14 @@ use Rattle.number.proofs.Standing.{stands_left, stands_right, stands_self}
 use Rattle.number.specs.Bytes.{Stands}
 use Rattle.digits.specs.Reading.{is_digit, number}
 use Rattle.number.specs.Text.{number_text, last_digits, weight_text}
-use Rattle.digits.specs.declared.Reading.{Reading}
-use Rattle.digits.specs.declared.Reading.TheVariants.{Got, Stopped}
+use Rattle.digits.specs.declared.Read.{Read}
+use Rattle.digits.specs.declared.Stopped.{Stopped}
+use Rattle.std.specs.Prelude.{Result, Ok, Err}
 
 -- what a line due begins with: a letter, or a number and the byte after it
-abbrev mark_of : List ℕ → Reading → ℕ
-mark_of s (Got v p) = get_or s p 0
-mark_of s (Stopped p) = 0
+abbrev mark_of : List ℕ → Result (Read ℕ) Stopped → ℕ
+mark_of s (Ok r) = get_or s r.next 0
+mark_of s (Err e) = 0
 
 abbrev due_mark : Due → ℕ
 due_mark (HeaderDue h) = 0
@@ -124,7 +126,9 @@ pub same_line : (x y : Line) (s : List ℕ) (at : ℕ) → line_in_range x ≡ t
     → Stands s at (line_text x) → Stands s at (line_text y) → x ≡ y
 same_line x y s at p q h g =
     let due = same_due x y s at (sym (line_mark x s at p h) ∙ line_mark y s at q g) h g in
-    cc (line_reads x s at p h, line_reads y s at q g)
+    let read : Line → Read Line = λ z. record { value = z; next = at + length (line_text z) } in
+    let one : read x ≡ read y = cc (line_reads x s at p h, line_reads y s at q g) in
+    ap (λ (r : Read Line). r.value) one
 
 -- no two lines in range share a text
 pub one_line : LineOneText

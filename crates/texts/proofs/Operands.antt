@@ -1,7 +1,7 @@
 -- What is taken as a field of a line is that field's text. Assumes nothing.
-use mathlib.Core.Path.{◌≡◌, refl}
+use mathlib.Core.Path.{◌≡◌, refl, ap, ◌∙◌}
 use mathlib.Core.Bool.{true, false}
-use mathlib.Core.List.{List, [], ◌∷◌}
+use mathlib.Core.List.{List, [], ◌∷◌, ◌++◌}
 use mathlib.Core.Logic.{⊎_elim}
 use Prim.Native.Nat.{ℕ, ◌+◌}
 use native.Mathlib.Omega.{arith}
@@ -12,58 +12,41 @@ use Rattle.form.specs.Range.{in_range, limited}
 use Rattle.form.specs.Text.{operand_text, lead_text, word_text}
 use Rattle.form.specs.declared.Kind.{Kind}
 use Rattle.form.specs.declared.Kind.TheVariants.{Nothing, Count, Thousandths}
-use Rattle.operand.specs.Operand.{word, of_reading, number_at, spaced, operand_at, after_operand, after_word, space_after, lead_at}
-use Rattle.operand.specs.declared.Operand.{Operand}
-use Rattle.operand.specs.declared.Operand.TheVariants.{Good, OutOfRange, NoForm}
+use Rattle.operand.specs.Operand.{Number, byte, word, digits_of, number_at, space_before, operand_at, space_after, lead_at}
+use Rattle.operand.specs.declared.OutOfRange.{OutOfRange}
 use Rattle.laws.proofs.Choice.{either}
+use Rattle.digits.proofs.Digits.{after_ok, got_ok}
 use Rattle.digits.proofs.OnlyTexts.{number_is, weight_is}
 use Rattle.number.proofs.Standing.{here_then, here_none, here_byte}
 use Rattle.number.specs.Bytes.{Here}
-use Rattle.digits.specs.Reading.{count, weight}
 use Rattle.number.specs.Text.{number_text, weight_text}
-use Rattle.digits.specs.declared.Reading.{Reading}
-use Rattle.digits.specs.declared.Reading.TheVariants.{Got, Stopped}
+use Rattle.digits.specs.declared.Read.{Read}
+use Rattle.std.specs.Prelude.{Ok, ok_or}
+use Rattle.std.proofs.lemmas.List.{append-nil}
 
--- a field of the right form, in its range or not
-abbrev pub Formed : Operand → Type 0
-Formed (Good v p) = Unit {0}
-Formed (OutOfRange n p) = Unit {0}
-Formed (NoForm x) = ⊥
+pub here_as : {s : List ℕ} {at p q : ℕ} {a b : List ℕ} → a ≡ b → p ≡ q → Here s at a p → Here s at b q
+here_as e f h = rw (e, f) at h
 
-abbrev pub place_in : Operand → ℕ
-place_in (Good v p) = p
-place_in (OutOfRange n p) = p
-place_in (NoForm x) = x
+pub byte_is : (b : ℕ) (s : List ℕ) (at p : ℕ) → byte b s at ≡ Ok p → (get_or s at 0 ≡ b) × (at + 1 ≡ p)
+byte_is b s at p e =
+    ⊎_elim
+    (λ (x : eqb (get_or s at 0) b ≡ true). (eqb-true _ _ x, cc (simp x at e)))
+    (λ (x : eqb (get_or s at 0) b ≡ false). cc (simp x at e))
+    (either (eqb (get_or s at 0) b))
 
-word_is : (w s : List ℕ) (at : ℕ) → Formed (word w s at) → Here s at (word_text w) (place_in (word w s at))
+byte_here : (b : ℕ) (s : List ℕ) (at p : ℕ) → byte b s at ≡ Ok p → Here s at (b ∷ []) p
+byte_here b s at p e = let h = byte_is b s at p e in rw (← h.1) (here_byte h.0)
+
+pub word_is : (w s : List ℕ) (at p : ℕ) → word w s at ≡ Ok p → Here s at (word_text w) p
 unfolding word word_text
-word_is [] s at g = here_none refl
-word_is (b ∷ w) s at g =
+word_is [] s at p e = here_none (cc)
+word_is (b ∷ w) s at p e =
     ⊎_elim
-    (λ (x : eqb b 0 ≡ true). rw x (here_none refl))
-    (λ (x : eqb b 0 ≡ false). ⊎_elim
-    (λ (y : eqb (get_or s at 0) b ≡ true).
-    rw (x, y) (here_then (here_byte (eqb-true _ _ y)) (word_is w s (at + 1) (simp (x, y) at g))))
-    (λ (y : eqb (get_or s at 0) b ≡ false). absurd (simp (x, y) at g))
-    (either (eqb (get_or s at 0) b)))
+    (λ (x : eqb b 0 ≡ true). rw x (here_none (cc (simp x at e))))
+    (λ (x : eqb b 0 ≡ false).
+    let o = after_ok (byte b s at) (λ next. word w s next) p (simp x at e) in
+    rw x (here_then (byte_here b s at o.0 o.1) (word_is w s o.0 p o.2)))
     (either (eqb b 0))
-
-pub after_word_lem : (s : List ℕ) (l : Operand) (w : List ℕ) → Formed (after_word s l w) → Here s (place_in l) (word_text w) (place_in (after_word s l w))
-after_word_lem s (Good v p) w g = word_is w s p g
-after_word_lem s (OutOfRange n p) w g = word_is w s p g
-after_word_lem s (NoForm x) w g = absurd g
-
-reading_is : (k : Kind) (at : ℕ) (r : Reading) (v p : ℕ) → of_reading k at r ≡ Good v p → (r ≡ Got v p) × (in_range k v ≡ true)
-unfolding limited
-reading_is k at (Stopped x) v p e = let z : ◌≡◌ {A = ℕ} 0 1 = cc in absurd (omega arith)
-reading_is k at (Got w q) v p e =
-    ⊎_elim
-    (λ (x : in_range k w ≡ true).
-    let h : w ≡ v = cc (simp x at e) in
-    let g : q ≡ p = cc (simp x at e) in
-    (cc, rw h at x))
-    (λ (x : in_range k w ≡ false). let z : ◌≡◌ {A = ℕ} 0 1 = cc (simp x at e) in absurd (omega arith))
-    (either (in_range k w))
 
 -- the text of a number of a kind, without the space beside it
 kind_text : Kind → ℕ → List ℕ
@@ -71,61 +54,76 @@ kind_text Nothing v = []
 kind_text (Count low high) v = number_text v
 kind_text Thousandths v = weight_text v
 
-number_at_lem : (k : Kind) (s : List ℕ) (at v p : ℕ) → number_at k s at ≡ Good v p → Here s at (kind_text k v) p × (in_range k v ≡ true)
-unfolding kind_text in_range
-number_at_lem Nothing s at v p e = let h : 0 ≡ v = cc in (here_none (cc), rw (← h))
-number_at_lem (Count low high) s at v p e =
-    let r = reading_is (Count low high) at (count s at) v p e in
-    (number_is 4 s at v p (omega arith) r.0, r.1)
-number_at_lem Thousandths s at v p e =
-    let r = reading_is Thousandths at (weight s at) v p e in
-    (weight_is s at v p r.0, r.1)
+digits_of_lem : (k : Kind) (s : List ℕ) (at : ℕ) (n : Read ℕ) → digits_of k s at ≡ Ok n → Here s at (kind_text k n.value) n.next
+unfolding kind_text
+digits_of_lem Nothing s at n e = here_none (cc)
+digits_of_lem (Count low high) s at n e = number_is 4 s at n (omega arith) e
+digits_of_lem Thousandths s at n e = weight_is s at n e
 
-spaced_is : (k : Kind) (s : List ℕ) (at v p : ℕ) → spaced k s at ≡ Good v p → Here s at (32 ∷ kind_text k v) p × (in_range k v ≡ true)
-unfolding spaced
-spaced_is k s at v p e =
+limited_is : (k : Kind) (w v : ℕ) (x : OutOfRange) → ok_or (limited k w) x ≡ Ok v → (w ≡ v) × (in_range k v ≡ true)
+unfolding limited
+limited_is k w v x e =
     ⊎_elim
-    (λ (x : eqb (get_or s at 0) 32 ≡ true).
-    let n = number_at_lem k s (at + 1) v p (simp x at e) in
-    (here_then (here_byte (eqb-true _ _ x)) n.0, n.1))
-    (λ (x : eqb (get_or s at 0) 32 ≡ false). let z : ◌≡◌ {A = ℕ} 0 1 = cc (simp x at e) in absurd (omega arith))
-    (either (eqb (get_or s at 0) 32))
+    (λ (y : in_range k w ≡ true). let h : w ≡ v = cc (simp y at e) in (h, rw h at y))
+    (λ (y : in_range k w ≡ false). cc (simp y at e))
+    (either (in_range k w))
 
-operand_is : (k : Kind) (s : List ℕ) (at v p : ℕ) → operand_at k s at ≡ Good v p → Here s at (operand_text k v) p × (in_range k v ≡ true)
-unfolding operand_text kind_text
-operand_is Nothing s at v p e = number_at_lem Nothing s at v p e
-operand_is (Count low high) s at v p e = spaced_is (Count low high) s at v p e
-operand_is Thousandths s at v p e = spaced_is Thousandths s at v p e
+-- a number in its range, with its text and the place after it
+abbrev Held : Kind → (ℕ → List ℕ) → List ℕ → ℕ → Number → Type 0
+Held k text s at r = (v : ℕ) → r.value ≡ Ok v → Here s at (text v) r.next × (in_range k v ≡ true)
 
-space_after_lem : (s : List ℕ) (m : Operand) (v p : ℕ) → space_after s m ≡ Good v p → (m ≡ Good v (place_in m)) × Here s (place_in m) (32 ∷ []) p
-space_after_lem s (NoForm x) v p e = let z : ◌≡◌ {A = ℕ} 0 1 = cc in absurd (omega arith)
-space_after_lem s (OutOfRange n q) v p e =
-    ⊎_elim
-    (λ (x : eqb (get_or s q 0) 32 ≡ true). let z : ◌≡◌ {A = ℕ} 0 1 = cc (simp x at e) in absurd (omega arith))
-    (λ (x : eqb (get_or s q 0) 32 ≡ false). let z : ◌≡◌ {A = ℕ} 0 1 = cc (simp x at e) in absurd (omega arith))
-    (either (eqb (get_or s q 0) 32))
-space_after_lem s (Good w q) v p e =
-    ⊎_elim
-    (λ (x : eqb (get_or s q 0) 32 ≡ true).
-    let h : w ≡ v = cc (simp x at e) in
-    let g : q + 1 ≡ p = cc (simp x at e) in
-    (cc, rw (← g) (here_byte (eqb-true _ _ x))))
-    (λ (x : eqb (get_or s q 0) 32 ≡ false). let z : ◌≡◌ {A = ℕ} 0 1 = cc (simp x at e) in absurd (omega arith))
-    (either (eqb (get_or s q 0) 32))
+number_at_lem : (k : Kind) (s : List ℕ) (at : ℕ) (r : Number) → number_at k s at ≡ Ok r → Held k (kind_text k) s at r
+number_at_lem k s at r e v h =
+    let o = after_ok (digits_of k s at) _ r e in
+    let g = got_ok _ _ r o.2 in
+    let l = limited_is k o.0.value v (record { 0 = at }) (g.0 ∙ h) in
+    (here_as (ap (kind_text k) l.0) g.1 (digits_of_lem k s at o.0 o.1), l.1)
 
-pub lead_is : (k : Kind) (s : List ℕ) (at v p : ℕ) → lead_at k s at ≡ Good v p → Here s at (lead_text k v) p × (in_range k v ≡ true)
-unfolding lead_text kind_text
-lead_is Nothing s at v p e = number_at_lem Nothing s at v p e
-lead_is (Count low high) s at v p e =
-    let m = number_at (Count low high) s at in
-    let h = space_after_lem s m v p e in
-    let n = number_at_lem (Count low high) s at v (place_in m) h.0 in
-    (here_then n.0 h.1, n.1)
-lead_is Thousandths s at v p e = number_at_lem Thousandths s at v p e
+-- the text before a number, and after it
+before_text : Kind → List ℕ
+before_text Nothing = []
+before_text (Count low high) = 32 ∷ []
+before_text Thousandths = 32 ∷ []
 
--- a wrong form goes on, so what was taken last was taken after what was taken before
-pub after_is : (s : List ℕ) (m : Operand) (k : Kind) (v p : ℕ) → after_operand s m k ≡ Good v p
-    → Formed m × Here s (place_in m) (operand_text k v) p × (in_range k v ≡ true)
-after_is s (Good w q) k v p e = let o = operand_is k s q v p e in (tt, o.0, o.1)
-after_is s (OutOfRange n q) k v p e = let o = operand_is k s q v p e in (tt, o.0, o.1)
-after_is s (NoForm x) k v p e = let z : ◌≡◌ {A = ℕ} 0 1 = cc in absurd (omega arith)
+after_text : Kind → List ℕ
+after_text Nothing = []
+after_text (Count low high) = 32 ∷ []
+after_text Thousandths = []
+
+space_before_lem : (k : Kind) (s : List ℕ) (at p : ℕ) → space_before k s at ≡ Ok p → Here s at (before_text k) p
+unfolding before_text
+space_before_lem Nothing s at p e = here_none (cc)
+space_before_lem (Count low high) s at p e = byte_here 32 s at p e
+space_before_lem Thousandths s at p e = byte_here 32 s at p e
+
+space_after_lem : (k : Kind) (s : List ℕ) (at p : ℕ) → space_after k s at ≡ Ok p → Here s at (after_text k) p
+unfolding after_text
+space_after_lem Nothing s at p e = here_none (cc)
+space_after_lem (Count low high) s at p e = byte_here 32 s at p e
+space_after_lem Thousandths s at p e = here_none (cc)
+
+operand_text_is : (k : Kind) (v : ℕ) → before_text k ++ kind_text k v ≡ operand_text k v
+unfolding before_text kind_text operand_text
+operand_text_is Nothing v = refl
+operand_text_is (Count low high) v = refl
+operand_text_is Thousandths v = refl
+
+lead_text_is : (k : Kind) (v : ℕ) → kind_text k v ++ after_text k ≡ lead_text k v
+unfolding after_text kind_text lead_text
+lead_text_is Nothing v = refl
+lead_text_is (Count low high) v = refl
+lead_text_is Thousandths v = append-nil (weight_text v)
+
+pub operand_is : (k : Kind) (s : List ℕ) (at : ℕ) (r : Number) → operand_at k s at ≡ Ok r → Held k (operand_text k) s at r
+operand_is k s at r e v h =
+    let o = after_ok (space_before k s at) _ r e in
+    let n = number_at_lem k s o.0 r o.2 v h in
+    (here_as (operand_text_is k v) refl (here_then (space_before_lem k s at o.0 o.1) n.0), n.1)
+
+pub lead_is : (k : Kind) (s : List ℕ) (at : ℕ) (r : Number) → lead_at k s at ≡ Ok r → Held k (lead_text k) s at r
+lead_is k s at r e v h =
+    let o = after_ok (number_at k s at) _ r e in
+    let a = after_ok (space_after k s o.0.next) _ r o.2 in
+    let g = got_ok _ _ r a.2 in
+    let n = number_at_lem k s at o.0 o.1 v (g.0 ∙ h) in
+    (here_as (lead_text_is k v) g.1 (here_then n.0 (space_after_lem k s o.0.next a.0 a.1)), n.1)

@@ -1,5 +1,5 @@
 -- The text of a line in range is read as that line. Assumes nothing.
-use mathlib.Core.Path.{◌≡◌, refl, ap, ◌∙◌}
+use mathlib.Core.Path.{◌≡◌, refl, sym, ap, ◌∙◌}
 use mathlib.Core.Bool.{true, false}
 use mathlib.Core.List.{List, [], ◌∷◌, ◌++◌}
 use mathlib.Core.Logic.{⊎_elim}
@@ -10,7 +10,7 @@ use borrow.Author.Tests.{leb-true, eqb-true, eq-eqb}
 use lib.Dec.{leb, eqb}
 use lib.ListN.{length, get_or, length-append}
 use Rattle.form.proofs.Range.{limited_in}
-use Rattle.form.specs.Line.{lead_kind, first_form, form_count, due_of, fields, fields_of, line_in_range}
+use Rattle.form.specs.Line.{lead_kind, first_form, form_count, due_of, fields_of, line_in_range}
 use Rattle.step.specs.Limit.{most}
 use Rattle.form.specs.Range.{in_range}
 use Rattle.form.specs.Table.{form_total, word_of, kind_a, kind_b, kind_c}
@@ -22,23 +22,23 @@ use Rattle.form.specs.declared.Kind.{Kind}
 use Rattle.form.specs.declared.Kind.TheVariants.{Nothing, Count, Thousandths}
 use Rattle.texts.proofs.Apart.{short, short_a, short_b, short_c, others}
 use Rattle.texts.proofs.Fields.{Ranged, ranged, Among, among_table, line_fields, line_among}
-use Rattle.texts.proofs.OnlyLines.{Fits}
-use Rattle.operand.specs.Operand.{word, number_at, spaced, operand_at, after_operand, space_after, lead_at}
+use Rattle.operand.specs.Operand.{Number, byte, word, number_at, operand_at, lead_at}
 use Rattle.texts.specs.Promise.{LineReadBack}
-use Rattle.line.specs.Row.{closed, form_row, find_form, due_row, read_line}
-use Rattle.operand.specs.declared.Operand.{Operand}
-use Rattle.operand.specs.declared.Operand.TheVariants.{Good}
-use Rattle.line.specs.declared.Row.{Row}
-use Rattle.line.specs.declared.Row.TheVariants.{Read, RangeAt, NotForm}
+use Rattle.line.specs.Row.{Row, form_row, find_form, due_row, read_line}
+use Rattle.digits.specs.declared.Stopped.{Stopped}
+use Rattle.std.specs.Prelude.{Result, Ok, Err}
 use Rattle.laws.proofs.Choice.{either, and_right}
 use Rattle.number.proofs.Decimal.{length_snoc, length_pow}
 use Rattle.digits.proofs.ReadBack.{number_reads, weight_reads}
 use Rattle.number.proofs.Standing.{stands_left, stands_right}
 use Rattle.number.specs.Bytes.{Stands}
-use Rattle.digits.specs.Reading.{is_digit}
+use Rattle.digits.specs.Reading.{got, is_digit}
 use Rattle.number.specs.Text.{number_text, weight_text}
 
-word_reads : (w s : List ℕ) (at : ℕ) → Stands s at (word_text w) → word w s at ≡ Good 0 (at + length (word_text w))
+byte_reads : (b : ℕ) (s : List ℕ) (at : ℕ) → get_or s at 0 ≡ b → byte b s at ≡ Ok (at + 1)
+byte_reads b s at e = rw (eq-eqb _ _ e)
+
+word_reads : (w s : List ℕ) (at : ℕ) → Stands s at (word_text w) → word w s at ≡ Ok (at + length (word_text w))
 unfolding word word_text
 word_reads [] s at h = rw add-zero
 word_reads (b ∷ w) s at h =
@@ -46,7 +46,7 @@ word_reads (b ∷ w) s at h =
     (λ (x : eqb b 0 ≡ true). rw (x, add-zero))
     (λ (x : eqb b 0 ≡ false).
     let g : Stands s at (b ∷ word_text w) = simp x at h in
-    rw (x, eq-eqb _ _ g.0) (word_reads w s (at + 1) g.1 ∙ ap (Good 0) (omega arith)))
+    rw (x, eq-eqb _ _ g.0) (word_reads w s (at + 1) g.1 ∙ ap (λ (k : ℕ). Ok k) (omega arith)))
     (either (eqb b 0))
 
 -- after a number without a point stands no digit
@@ -61,51 +61,50 @@ sep_end : (s : List ℕ) (p : ℕ) → get_or s p 0 ≡ 10 → Sep s p
 unfolding is_digit
 sep_end s p e = rw e
 
-none_reads : (at v : ℕ) → in_range Nothing v ≡ true → Good 0 at ≡ Good v (at + 0)
+-- a number in its range, and the place after it
+abbrev good : ℕ → ℕ → Result Number Stopped
+good v p = got (Ok v) p
+
+none_reads : (s : List ℕ) (at v : ℕ) → in_range Nothing v ≡ true → number_at Nothing s at ≡ good v (at + 0)
 unfolding in_range
-none_reads at v r = rw (add-zero, eqb-true v 0 r)
+none_reads s at v r = rw (limited_in Nothing 0 refl, add-zero, eqb-true v 0 r)
 
 count_reads : (low high v : ℕ) (s : List ℕ) (at : ℕ) → short (Count low high) ≡ true → in_range (Count low high) v ≡ true
-    → Stands s at (number_text v) → Sep s (at + length (number_text v)) → number_at (Count low high) s at ≡ Good v (at + length (number_text v))
+    → Stands s at (number_text v) → Sep s (at + length (number_text v))
+    → number_at (Count low high) s at ≡ good v (at + length (number_text v))
 unfolding in_range
 count_reads low high v s at m r h d =
     let top : v ≤ high = leb-true v high (and_right (leb low v) (leb v high) r) in
     rw (number_reads 4 s at v (length_pow 3 v (omega (arith, leb-true high 9999 m))) h d, limited_in (Count low high) v r)
 
 thousandths_reads : (v : ℕ) (s : List ℕ) (at : ℕ) → in_range Thousandths v ≡ true → Stands s at (weight_text v)
-    → number_at Thousandths s at ≡ Good v (at + length (weight_text v))
+    → number_at Thousandths s at ≡ good v (at + length (weight_text v))
 unfolding in_range
 thousandths_reads v s at r h =
     rw (weight_reads s at v (omega (arith, leb-true v most r)) h, limited_in Thousandths v r)
 
-spaced_reads : (k : Kind) (v n : ℕ) (s : List ℕ) (at : ℕ) → get_or s at 0 ≡ 32 → number_at k s (at + 1) ≡ Good v (at + 1 + n) → spaced k s at ≡ Good v (at + suc n)
-unfolding spaced
-spaced_reads k v n s at b e = rw (eq-eqb _ _ b) (e ∙ ap (Good v) (omega arith))
-
 operand_reads : (k : Kind) (v : ℕ) (s : List ℕ) (at : ℕ) → short k ≡ true → in_range k v ≡ true → Stands s at (operand_text k v)
-    → Sep s (at + length (operand_text k v)) → operand_at k s at ≡ Good v (at + length (operand_text k v))
+    → Sep s (at + length (operand_text k v)) → operand_at k s at ≡ good v (at + length (operand_text k v))
 unfolding operand_text
-operand_reads Nothing v s at m r h d = none_reads at v r
+operand_reads Nothing v s at m r h d = none_reads s at v r
 operand_reads (Count low high) v s at m r h d =
     let e : at + suc (length (number_text v)) ≡ at + 1 + length (number_text v) = omega arith in
-    spaced_reads (Count low high) v (length (number_text v)) s at h.0 (count_reads low high v s (at + 1) m r h.1 (rw e at d))
+    rw (byte_reads 32 s at h.0) (count_reads low high v s (at + 1) m r h.1 (rw e at d) ∙ ap (good v) (sym e))
 operand_reads Thousandths v s at m r h d =
-    spaced_reads Thousandths v (length (weight_text v)) s at h.0 (thousandths_reads v s (at + 1) r h.1)
-
-space_reads : (s : List ℕ) (m : Operand) (v p : ℕ) → m ≡ Good v p → get_or s p 0 ≡ 32 → space_after s m ≡ Good v (p + 1)
-space_reads s m v p e b = rw (e, eq-eqb _ _ b)
+    let e : at + suc (length (weight_text v)) ≡ at + 1 + length (weight_text v) = omega arith in
+    rw (byte_reads 32 s at h.0) (thousandths_reads v s (at + 1) r h.1 ∙ ap (good v) (sym e))
 
 lead_reads : (k : Kind) (v : ℕ) (s : List ℕ) (at : ℕ) → short k ≡ true → in_range k v ≡ true → Stands s at (lead_text k v)
-    → lead_at k s at ≡ Good v (at + length (lead_text k v))
+    → lead_at k s at ≡ good v (at + length (lead_text k v))
 unfolding lead_text
-lead_reads Nothing v s at m r h = none_reads at v r
+lead_reads Nothing v s at m r h = rw (none_reads s at v r)
 lead_reads (Count low high) v s at m r h =
     let t = number_text v in
     let p = at + length t in
     let b : get_or s p 0 ≡ 32 = (stands_right s at t (32 ∷ []) h).0 in
-    let n = count_reads low high v s at m r (stands_left s at t (32 ∷ []) h) (sep_space s p b) in
-    space_reads s (number_at (Count low high) s at) v p n b ∙ ap (Good v) (omega (arith, length_snoc t 32))
-lead_reads Thousandths v s at m r h = thousandths_reads v s at r h
+    rw (count_reads low high v s at m r (stands_left s at t (32 ∷ []) h) (sep_space s p b), byte_reads 32 s p b)
+    (ap (good v) (omega (arith, length_snoc t 32)))
+lead_reads Thousandths v s at m r h = rw (thousandths_reads v s at r h)
 
 -- after an operand stands a space or the LF
 sep_operand : (k : Kind) (v : ℕ) (rest s : List ℕ) (p : ℕ) → (Stands s p rest → Sep s p) → Stands s p (operand_text k v ++ rest) → Sep s p
@@ -115,19 +114,20 @@ sep_operand (Count low high) v rest s p f h = sep_space s p h.0
 sep_operand Thousandths v rest s p f h = sep_space s p h.0
 
 -- one operand, with what follows it
-operand_then : (k : Kind) (v : ℕ) (rest s : List ℕ) (z p : ℕ) → short k ≡ true → in_range k v ≡ true
+operand_then : (k : Kind) (v : ℕ) (rest s : List ℕ) (p : ℕ) → short k ≡ true → in_range k v ≡ true
     → (Stands s (p + length (operand_text k v)) rest → Sep s (p + length (operand_text k v)))
-    → Stands s p (operand_text k v ++ rest) → after_operand s (Good z p) k ≡ Good v (p + length (operand_text k v))
-operand_then k v rest s z p m r f h =
+    → Stands s p (operand_text k v ++ rest) → operand_at k s p ≡ good v (p + length (operand_text k v))
+operand_then k v rest s p m r f h =
     operand_reads k v s p m r (stands_left s p (operand_text k v) rest h) (f (stands_right s p (operand_text k v) rest h))
 
-closed_reads : (s : List ℕ) (i t a b c l x y e : ℕ) → get_or s e 0 ≡ 10
-    → closed s i (Good t l) (Good a x) (Good b y) (Good c e) ≡ Read (fields t i a b c) (e + 1)
-closed_reads s i t a b c l x y e h = simp (eq-eqb _ _ h)
+-- a line's numbers in their ranges, and the place after it
+abbrev read : Fields → ℕ → Result Row Stopped
+read f p = got (Ok f) p
 
-row_reads : (lead : Kind) (f : Fields) (s : List ℕ) (at : ℕ) → f.form < form_total → Ranged lead f → Stands s at (form_text f.form f.a f.b f.c)
-    → form_row f.form s (Good f.lead at) ≡ Read f (at + length (form_text f.form f.a f.b f.c))
-unfolding form_row form_text
+row_reads : (lead : Kind) (f : Fields) (s : List ℕ) (at : ℕ) → f.form < form_total → Ranged lead f
+    → Stands s at (form_text f.form f.a f.b f.c)
+    → form_row f.form s (record { value = Ok f.lead; next = at }) ≡ read f (at + length (form_text f.form f.a f.b f.c))
+unfolding form_text
 row_reads lead f s at n rg h =
     let i = f.form in
     let w = word_of i in let ka = kind_a i in let kb = kind_b i in let kc = kind_c i in
@@ -144,21 +144,21 @@ row_reads lead f s at n rg h =
     let sb : (x : ℕ) → Stands s x rb → Sep s x = λ x g. sep_operand kb f.b rc s x (sc x) g in
     rw (
       word_reads w s at (stands_left s at tw ra h),
-      operand_then ka f.a rb s 0 p (short_a i n) rg.a (sb q) ha,
-      operand_then kb f.b rc s f.a q (short_b i n) rg.b (sc r) hb,
-      operand_then kc f.c (10 ∷ []) s f.b r (short_c i n) rg.c (sl e) hc,
+      operand_then ka f.a rb s p (short_a i n) rg.a (sb q) ha,
+      operand_then kb f.b rc s q (short_b i n) rg.b (sc r) hb,
+      operand_then kc f.c (10 ∷ []) s r (short_c i n) rg.c (sl e) hc,
+      byte_reads 10 s e hl.0,
     )
-    (closed_reads s i f.lead f.a f.b f.c at q r e hl.0
-    ∙ ap (Read f) (omega (arith, length-append tw ra, length-append ta rb, length-append tb rc, length-append tc (10 ∷ []))))
+    (ap (read f) (omega (arith, length-append tw ra, length-append ta rb, length-append tb rc, length-append tc (10 ∷ []))))
 
-not_fits : (r : Row) → (Fits r → ⊥) → (p : ℕ) × (r ≡ NotForm p)
-not_fits (Read f n) g = absurd (g tt)
-not_fits (RangeAt n) g = absurd (g tt)
-not_fits (NotForm p) g = (p, refl)
+not_fits : (x : Result Row Stopped) → ((r : Row) → x ≡ Ok r → ⊥) → (e : Stopped) × (x ≡ Err e)
+not_fits (Ok r) g = absurd (g r refl)
+not_fits (Err e) g = (e, refl)
 
 -- a row that is read is found where no earlier one fits
-find_from : (left j far : ℕ) (s : List ℕ) (l : Operand) (f : Fields) (n : ℕ) → j ≤ f.form → f.form < j + left
-    → ((k : ℕ) → k < f.form → j ≤ k → Fits (form_row k s l) → ⊥) → form_row f.form s l ≡ Read f n → find_form left j far s l ≡ Read f n
+find_from : (left j far : ℕ) (s : List ℕ) (l : Number) (f : Fields) (n : ℕ) → j ≤ f.form → f.form < j + left
+    → ((k : ℕ) → k < f.form → j ≤ k → (r : Row) → form_row k s l ≡ Ok r → ⊥) → form_row f.form s l ≡ read f n
+    → find_form left j far s l ≡ read f n
 unfolding find_form
 find_from zero j far s l f n x y g e = absurd (omega arith)
 find_from (suc left) j far s l f n x y g e =
@@ -166,7 +166,7 @@ find_from (suc left) j far s l f n x y g e =
     (λ (q : j ≡ f.form). rw (q, e))
     (λ (q : j < f.form).
     let w = not_fits (form_row j s l) (g j q (omega arith)) in
-    rw w.1 (find_from left (j + 1) (max far w.0) s l f n (omega arith) (omega arith) (λ k u v. g k u (omega arith)) e))
+    rw w.1 (find_from left (j + 1) (max far w.0.0) s l f n (omega arith) (omega arith) (λ k u v. g k u (omega arith)) e))
     (eq-or-lt_of_le x)
 
 lead_short : (d : Due) → short (lead_kind d) ≡ true
@@ -174,8 +174,9 @@ lead_short (HeaderDue h) = refl
 lead_short WeightDue = refl
 lead_short StepDue = refl
 
-due_reads : (d : Due) (f : Fields) (s : List ℕ) (at : ℕ) → Among d f.form → Ranged (lead_kind d) f → Stands s at (fields_text (lead_kind d) f)
-    → due_row d s at ≡ Read f (at + length (fields_text (lead_kind d) f))
+due_reads : (d : Due) (f : Fields) (s : List ℕ) (at : ℕ) → Among d f.form → Ranged (lead_kind d) f
+    → Stands s at (fields_text (lead_kind d) f)
+    → due_row d s at ≡ read f (at + length (fields_text (lead_kind d) f))
 unfolding due_row fields_text
 due_reads d f s at m r h =
     let k = lead_kind d in
@@ -184,10 +185,11 @@ due_reads d f s at m r h =
     let n = among_table d f.form m in
     let p = at + length t in
     let g : Stands s p u = stands_right s at t u h in
+    let l : Number = record { value = Ok f.lead; next = p } in
     rw (lead_reads k f.lead s at (lead_short d) r.lead (stands_left s at t u h))
-    (find_from (form_count d) (first_form d) at s (Good f.lead p) f (p + length u) m.low m.high
-    (λ j x y. others f.form j s (Good f.lead p) f.a f.b f.c n x g) (row_reads k f s p n r g)
-    ∙ ap (Read f) (omega (arith, length-append t u)))
+    (find_from (form_count d) (first_form d) at s l f (p + length u) m.low m.high
+    (λ j x y. others f.form j s l f.a f.b f.c n x g) (row_reads k f s p n r g)
+    ∙ ap (read f) (omega (arith, length-append t u)))
 
 -- the text of a line in range is read as that line
 pub line_reads : LineReadBack

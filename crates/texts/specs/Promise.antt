@@ -1,13 +1,12 @@
 -- What is promised of lines and schedules: each has one text, no two share one, the reader takes those texts only, and what it refuses
 -- it refuses by a number. Assumes nothing.
-use Rattle.std.specs.Prelude.{ℕ, ◌+◌, ◌≤◌, ◌<◌, ◌≡◌, true, List, length}
+use Rattle.std.specs.Prelude.{ℕ, ◌+◌, ◌≤◌, ◌<◌, ◌≡◌, true, List, length, Ok}
 use Rattle.number.specs.Bytes.{Stands, Here}
 use Rattle.form.specs.Line.{due_of, line_in_range}
 use Rattle.form.specs.Text.{line_text}
 use Rattle.form.specs.declared.Due.{Due}
 use Rattle.form.specs.declared.Line.{Line}
 use Rattle.line.specs.Row.{read_line, read_number}
-use Rattle.line.specs.declared.LineRead.TheVariants.{Took}
 use Rattle.schedule.specs.Sections.{judged}
 use Rattle.texts.specs.Schedule.{Schedule, HasText, schedule_text, judged_number, reads, schedule}
 
@@ -15,7 +14,7 @@ use Rattle.texts.specs.Schedule.{Schedule, HasText, schedule_text, judged_number
 abbrev pub LineReadBack : Type 0
 LineReadBack =
     (x : Line) (s : List ℕ) (at : ℕ) → line_in_range x ≡ true → Stands s at (line_text x)
-    → read_line (due_of x) s at ≡ Took x (at + length (line_text x))
+    → read_line (due_of x) s at ≡ Ok (record { value = x; next = at + length (line_text x) })
 
 -- what is taken as a line is exactly that line's text, and the line was due
 pub record TakenLine (due : Due) (s : List ℕ) (at : ℕ) (x : Line) (next : ℕ) : Type 0 where
@@ -24,7 +23,9 @@ pub record TakenLine (due : Due) (s : List ℕ) (at : ℕ) (x : Line) (next : �
   pub is_due : due_of x ≡ due
 
 abbrev pub LineOnlyText : Type 0
-LineOnlyText = (due : Due) (s : List ℕ) (at : ℕ) (x : Line) (next : ℕ) → read_line due s at ≡ Took x next → TakenLine due s at x next
+LineOnlyText =
+    (due : Due) (s : List ℕ) (at : ℕ) (x : Line) (next : ℕ) → read_line due s at ≡ Ok (record { value = x; next = next })
+    → TakenLine due s at x next
 
 -- no two forms share a text
 abbrev pub LineOneText : Type 0

@@ -1,5 +1,5 @@
 -- A schedule, its one text, and what the reader makes of a text. Assumes nothing.
-use Rattle.std.specs.Prelude.{ℕ, zero, suc, ◌≤◌, ◌≡◌, List, [], ◌∷◌, ◌++◌, map, Bool, true, ◌&&◌, length}
+use Rattle.std.specs.Prelude.{ℕ, zero, suc, ◌≤◌, ◌≡◌, List, [], ◌∷◌, ◌++◌, map, Bool, true, ◌&&◌, length, Result, Ok, Err}
 use Rattle.step.specs.declared.Step.{Step}
 use Rattle.step.specs.declared.Verb.TheVariants.{Go}
 use Rattle.form.specs.Line.{line_in_range}
@@ -13,13 +13,10 @@ use Rattle.form.specs.declared.Line.TheVariants.{HeaderLine, WeightLine, StepLin
 use Rattle.line.specs.Row.{read_line}
 use Rattle.fault.specs.Refusal.{number_of}
 use Rattle.fault.specs.declared.Refusal.{Refusal}
-use Rattle.line.specs.declared.LineRead.{LineRead}
-use Rattle.line.specs.declared.LineRead.TheVariants.{Took, Fault}
+use Rattle.digits.specs.declared.Read.{Read}
 use Rattle.schedule.specs.Sections.{headers, judged}
 use Rattle.schedule.specs.declared.Section.{Section}
 use Rattle.schedule.specs.declared.Sections.{Sections}
-use Rattle.schedule.specs.declared.Judged.{Judged}
-use Rattle.schedule.specs.declared.Judged.TheVariants.{Taken, Refused}
 
 -- threads, slots, the first values of plain cells and flags, the steps
 pub record Schedule : Type 0 where
@@ -52,7 +49,7 @@ lines_for [] x = []
 lines_for (h ∷ hs) x = HeaderLine h (count_for h x) ∷ (lines_in h x ++ lines_for hs x)
 
 unfoldable pub lines_of : Schedule → List Line
-lines_of x = lines_for (Shape ∷ headers) x
+lines_of x = lines_for headers x
 
 -- the text of lines: one after the other
 unfoldable pub text_of : List Line → List ℕ
@@ -73,9 +70,9 @@ pub record HasText (x : Schedule) : Type 0 where
   pub short : length (schedule_text x) ≤ 65536
 
 -- the lines of a section, read one at a time from its first on
-abbrev pub also : LineRead → (ℕ → List Line) → List Line
-also (Took x p) go = x ∷ go p
-also (Fault r) go = []
+abbrev pub also : Result (Read Line) Refusal → (ℕ → List Line) → List Line
+also (Ok x) go = x.value ∷ go x.next
+also (Err r) go = []
 
 unfoldable pub lines_from : ℕ → Due → List ℕ → ℕ → List Line
 lines_from zero due s at = []
@@ -109,18 +106,18 @@ schedule_of s x =
     }
 
 -- the paper's number: 1 to 4, or none for a text that is taken
-abbrev pub judged_number : Judged → ℕ
-judged_number (Taken x) = 0
-judged_number (Refused r) = number_of r
+abbrev pub judged_number : Result Sections Refusal → ℕ
+judged_number (Ok x) = 0
+judged_number (Err r) = number_of r
 
 -- what the reader makes of a text: a schedule, or a refusal
 pub data Outcome : Type 0 where
   schedule : Schedule → Outcome
   refusal : Refusal → Outcome
 
-abbrev pub outcome : List ℕ → Judged → Outcome
-outcome s (Taken x) = schedule (schedule_of s x)
-outcome s (Refused r) = refusal r
+abbrev pub outcome : List ℕ → Result Sections Refusal → Outcome
+outcome s (Ok x) = schedule (schedule_of s x)
+outcome s (Err r) = refusal r
 
 unfoldable pub reads : List ℕ → Outcome
 reads s = outcome s (judged s)

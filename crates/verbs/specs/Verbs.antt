@@ -1,6 +1,8 @@
 -- Tests of what a line asks. Assumes nothing.
 use Rattle.std.specs.Prelude.{Bool, true, false, ℕ, zero, suc, max, leb}
 use Rattle.state.specs.declared.Shape.{Shape}
+use Rattle.step.specs.declared.LineKind.{LineKind}
+use Rattle.step.specs.declared.LineKind.TheVariants.{Begins, Goes, GoesAt}
 use Rattle.step.specs.declared.Verb.{Verb}
 use Rattle.step.specs.declared.Verb.TheVariants.{Get, Set, Load, Store, Swap, Put, Take, Go, GoAt}
 
@@ -9,17 +11,17 @@ unfoldable pub among : ℕ → ℕ → Bool
 among zero n = false
 among (suc k) n = leb (suc k) n
 
--- which kind of line a verb is: 0 begins a call or is an access, 1 is a go, 2 a go with a stamp
-abbrev pub asks : Verb → ℕ
-asks (Get c t) = 0
-asks (Set c v t) = 0
-asks (Load f) = 0
-asks (Store f v) = 0
-asks (Swap f u v) = 0
-asks (Put w) = 0
-asks Take = 0
-asks Go = 1
-asks (GoAt t) = 2
+-- which kind of line a verb is: it begins a call or is an access, or it is a go, or a go with a stamp
+abbrev pub asks : Verb → LineKind
+asks (Get c t) = Begins
+asks (Set c v t) = Begins
+asks (Load f) = Begins
+asks (Store f v) = Begins
+asks (Swap f u v) = Begins
+asks (Put w) = Begins
+asks Take = Begins
+asks Go = Goes
+asks (GoAt t) = GoesAt
 
 -- the cell or flag that an access names is one of this machine's
 abbrev pub named : Shape → Verb → Bool

@@ -5,7 +5,7 @@ ghost use Rattle.std.specs.Prelude.{◌≡◌};
 ghost use Rattle.verbs.specs.Verbs.{among, asks, named, greatest};
 
 use state::Shape;
-use step::Verb;
+use step::{LineKind, Verb};
 
 pub fn is_among(n: u32, high: u32) -> bool
     ensures { result ≡ among n high }
@@ -16,28 +16,14 @@ pub fn is_among(n: u32, high: u32) -> bool
     n <= high
 }
 
-// Which kind of line a verb is: 0 begins a call or is an access, 1 is a go, 2 a go with a stamp.
-pub fn kind_of(verb: Verb) -> u32
+// Which kind of line a verb is.
+pub fn kind_of(verb: Verb) -> LineKind
     ensures { result ≡ asks verb }
 {
     match verb {
-        Verb::Get { cell: _, stamp: _ } => 0,
-        Verb::Set {
-            cell: _,
-            value: _,
-            stamp: _,
-        } => 0,
-        Verb::Load { flag: _ } => 0,
-        Verb::Store { flag: _, value: _ } => 0,
-        Verb::Swap {
-            flag: _,
-            old: _,
-            new: _,
-        } => 0,
-        Verb::Put { value: _ } => 0,
-        Verb::Take => 0,
-        Verb::Go => 1,
-        Verb::GoAt { stamp: _ } => 2,
+        Verb::Go => LineKind::Goes,
+        Verb::GoAt { .. } => LineKind::GoesAt,
+        _ => LineKind::Begins,
     }
 }
 
@@ -46,23 +32,12 @@ pub fn is_named(shape: Shape, verb: Verb) -> bool
     ensures { result ≡ named shape verb }
 {
     match verb {
-        Verb::Get { cell, stamp: _ } => is_among(cell, shape.plain),
-        Verb::Set {
-            cell,
-            value: _,
-            stamp: _,
-        } => is_among(cell, shape.plain),
-        Verb::Load { flag } => is_among(flag, shape.flags),
-        Verb::Store { flag, value: _ } => is_among(flag, shape.flags),
-        Verb::Swap {
+        Verb::Get { cell, .. } | Verb::Set { cell, .. } => is_among(cell, shape.plain),
+        Verb::Load { flag } | Verb::Store { flag, .. } | Verb::Swap { flag, .. } => is_among(
             flag,
-            old: _,
-            new: _,
-        } => is_among(flag, shape.flags),
-        Verb::Put { value: _ } => true,
-        Verb::Take => true,
-        Verb::Go => true,
-        Verb::GoAt { stamp: _ } => true,
+            shape.flags,
+        ),
+        _ => true,
     }
 }
 
@@ -71,18 +46,10 @@ pub fn greatest_of(verb: Verb) -> u32
     ensures { result ≡ greatest verb }
 {
     match verb {
-        Verb::Get { cell: _, stamp } => stamp,
-        Verb::Set {
-            cell: _,
-            value,
-            stamp,
-        } => view::larger(value, stamp),
-        Verb::Load { flag: _ } => 0,
-        Verb::Store { flag: _, value } => value,
-        Verb::Swap { flag: _, old, new } => view::larger(old, new),
-        Verb::Put { value } => value,
-        Verb::Take => 0,
-        Verb::Go => 0,
-        Verb::GoAt { stamp } => stamp,
+        Verb::Get { stamp, .. } | Verb::GoAt { stamp } => stamp,
+        Verb::Set { value, stamp, .. } => value.max(stamp),
+        Verb::Store { value, .. } | Verb::Put { value } => value,
+        Verb::Swap { old, new, .. } => old.max(new),
+        Verb::Load { .. } | Verb::Take | Verb::Go => 0,
     }
 }

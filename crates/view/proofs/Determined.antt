@@ -1,14 +1,10 @@
 -- Any two results that a public contract allows are equal, and so is every lent record afterwards. Assumes nothing.
 use Rattle.laws.proofs.Determined.{determined, OneResult}
-use Rattle.view.proofs.larger.Reads as larger
 use Rattle.view.proofs.zero_view.Reads as zero_view
 use Rattle.view.proofs.stamp_of.Reads as stamp_of
 use Rattle.view.proofs.with_stamp.Reads as with_stamp
 use Rattle.view.proofs.join.Reads as join
 use Rattle.view.proofs.view_stands.Reads as view_stands
-
-pub larger-determined : OneResult larger.Post
-larger-determined κs a x y e f = determined
 
 pub zero_view-determined : OneResult zero_view.Post
 zero_view-determined κs a x y e f = determined

@@ -1,7 +1,8 @@
 -- Laws of the join of two views. Assumes nothing.
 use mathlib.Core.Path.{◌≡◌, refl, ap}
 use mathlib.Core.List.{List, [], ◌∷◌}
-use Prim.Native.Nat.{ℕ, zero, suc, ◌≤◌, ◌<◌, max}
+use Prim.Native.Nat.{ℕ, zero, suc, ◌≤◌, ◌<◌, max, min}
+use native.Mathlib.Decide.{dec_lt}
 use native.Mathlib.Omega.{arith}
 use lib.ListN.{length, get_or, set}
 use Rattle.view.specs.View.{stamp_of, join_to, joined}
@@ -27,7 +28,7 @@ join_step zero (x ∷ a) [] h l = absurd (omega arith)
 join_step (suc k) (x ∷ a) [] h l = absurd (omega arith)
 
 -- past the end of the first list nothing more is joined
-pub join_past : (j k : ℕ) (a b : List ℕ) → length a ≤ j → length a ≤ k → join_to j a b ≡ join_to k a b
+join_past : (j k : ℕ) (a b : List ℕ) → length a ≤ j → length a ≤ k → join_to j a b ≡ join_to k a b
 unfolding join_to
 join_past zero zero a b h l = refl
 join_past zero (suc k) [] b h l = refl
@@ -37,6 +38,13 @@ join_past (suc j) zero (x ∷ a) b h l = absurd (omega arith)
 join_past (suc j) (suc k) [] b h l = refl
 join_past (suc j) (suc k) (x ∷ a) [] h l = refl
 join_past (suc j) (suc k) (x ∷ a) (y ∷ b) h l = ap (λ (t : List ℕ). max x y ∷ t) (join_past j k a b (omega arith) (omega arith))
+
+pub join_min : (k n i : ℕ) (a b : List ℕ) → length a ≡ n → i ≡ min k n → join_to i a b ≡ join_to k a b
+join_min k n i a b h e = go (dec_lt k n)
+  where
+    go : Dec (k < n) → join_to i a b ≡ join_to k a b
+    go (yes q) = ap (λ (j : ℕ). join_to j a b) (omega arith)
+    go (no q) = join_past i k a b (omega arith) (omega arith)
 
 here : (k : ℕ) (a b : List ℕ) (i : ℕ) → i < k → i < length a → get_or (join_to k a b) i 0 ≡ max (get_or a i 0) (get_or b i 0)
 unfolding join_to

@@ -1,21 +1,16 @@
 // Views: one stamp for each plain cell and each item slot.
 #![tactic(auto)]
 
-ghost use Rattle.std.specs.Prelude.{◌≡◌, max};
+ghost use Rattle.std.specs.Prelude.{◌≡◌};
 ghost use Rattle.view.specs.View.{zero_view, stamp_of, with_stamp, joined, view_stands};
 
+use laws::{item_or, with_item};
 use step::MOST;
 
 // The entry of the cell that a record numbers c is at c - 1: plain cells first, then slots. Entries past the machine's own are room.
 #[derive(Clone, Copy)]
 pub struct View {
     pub at: [u32; 32],
-}
-
-pub fn larger(x: u32, y: u32) -> u32
-    ensures { result ≡ max x y }
-{
-    if x < y { y } else { x }
 }
 
 pub fn zero_view() -> View
@@ -28,19 +23,16 @@ pub fn zero_view() -> View
 pub fn stamp_of(v: View, i: usize) -> u32
     ensures { result ≡ stamp_of v i }
 {
-    if i < 32 { v.at[i] } else { 0 }
+    item_or(&v.at, i, 0)
 }
 
 // One entry changed, all others kept.
 pub fn with_stamp(v: View, i: usize, stamp: u32) -> View
     ensures { result ≡ with_stamp v i stamp }
 {
-    if 32 <= i {
-        return v;
+    View {
+        at: with_item(v.at, i, stamp),
     }
-    let mut next = v;
-    next.at[i] = stamp;
-    next
 }
 
 // The first k entries joined, the others kept as in a.
@@ -48,13 +40,8 @@ pub fn join(a: View, b: View, k: usize) -> View
     ensures { result ≡ joined k a b }
 {
     let mut v = a;
-    let mut i: usize = 0;
-    while i < 32 {
-        if k <= i {
-            return v;
-        }
-        v.at[i] = larger(v.at[i], b.at[i]);
-        i += 1;
+    for i in 0..k.min(32) {
+        v.at[i] = v.at[i].max(b.at[i]);
     }
     v
 }
@@ -63,12 +50,5 @@ pub fn join(a: View, b: View, k: usize) -> View
 pub fn view_stands(v: View, k: usize) -> bool
     ensures { result ≡ view_stands k v }
 {
-    let mut i: usize = 0;
-    while i < k {
-        if MOST < stamp_of(v, i) {
-            return false;
-        }
-        i += 1;
-    }
-    true
+    (0..k).all(|i| stamp_of(v, i) <= MOST)
 }

@@ -1,20 +1,15 @@
 -- Laws of words written one after another. Assumes nothing.
 use mathlib.Core.Path.{◌≡◌, refl, sym, ◌∙◌}
-use mathlib.Core.List.{List, [], ◌∷◌, append-nil}
-use Prim.Native.Nat.{ℕ, suc, ◌+◌, ◌<◌}
+use mathlib.Core.List.{List, append-nil}
+use Prim.Native.Nat.{ℕ, ◌+◌}
 use native.Mathlib.Nat.{add-zero, zero-add}
 use native.Mathlib.Numerals.{add-one}
 use native.Mathlib.Omega.{arith}
-use lib.ListN.{length, get_or, set, take}
-use lib.Seq.{sets, take-suc, length-take-le, drop-length, sets-eq}
-use Rattle.number.proofs.Stores.{sets_append, wrote_then}
+use lib.ListN.{length}
+use lib.Seq.{drop-length, sets-eq}
+use Rattle.number.proofs.Stores.{wrote_then}
 use Rattle.number.specs.Buffer.{Wrote}
 use Rattle.image.specs.Image.{in_turn}
-
--- a turn of the loop that copies
-pub copy_step : (l s : List ℕ) (p i : ℕ) → i < length s → set (sets l p (take i s)) (p + i) (get_or s i 0) ≡ sets l p (take (suc i) s)
-copy_step l s p i h =
-    rw (take-suc s i 0 h, sets_append (take i s) (get_or s i 0 ∷ []) l p, length-take-le i s (omega arith))
 
 -- what is written over the whole of a list
 pub all_written : {l t m : List ℕ} {r : ℕ} → Wrote l 0 t r m → r ≡ length l → m ≡ t

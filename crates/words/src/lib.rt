@@ -1,28 +1,24 @@
 // The image of a state, written.
 #![tactic(auto)]
 
-ghost use Rattle.std.specs.Prelude.{◌≡◌, ◌++◌, ◌+◌, ◌*◌, ◌≤◌, length};
+ghost use Rattle.std.specs.Prelude.{◌≡◌, ◌++◌, ℕ, ◌+◌, ◌*◌, ◌≤◌, length};
 ghost use Rattle.image.specs.Image.{in_turn, atomic_words, thread_words, heading, words_of};
 ghost use Rattle.number.specs.Buffer.{placed, Wrote};
-ghost use Rattle.parts.specs.Parts.{name_in};
 ghost use Rattle.state.specs.State.{atomic_at};
+ghost use Rattle.state.specs.declared.Name.{Name};
 
-use parts::Family;
 use state::{Machine, Name};
 use view::View;
 
-// Words at a place, where there is room: the next place.
+// Words at a place, where there is room: the next place. As `write_bytes` in `number`: one for both would be public, and no public function
+// asks for room.
 fn write_words(buf: &mut [u32], p: usize, words: &[u32]) -> usize
     requires { p + length words.now ≤ length buf.old }
     ensures { Wrote buf.old p words.now result buf.new }
 {
-    let n = words.len();
-    let mut i: usize = 0;
-    while i < n {
-        buf[p + i] = words[i];
-        i += 1;
-    }
-    p + n
+    let next = p + words.len();
+    buf[p..next].copy_from_slice(words);
+    next
 }
 
 // Some words and the stamps of a view: an entry of the image.
@@ -42,11 +38,9 @@ fn write_threads(buf: &mut [u32], p: usize, m: Machine) -> usize
     ensures value { result ≡ p + 280 }
 {
     let mut q = p;
-    let mut i: usize = 0;
-    while i < 8 {
+    for i in 0..8 {
         let words = image::place_words(state::place_of(m, i));
         q = write_entry(buf, q, &words, state::row_of(m, i));
-        i += 1;
     }
     q
 }
@@ -62,17 +56,23 @@ fn write_cell(buf: &mut [u32], p: usize, m: Machine, name: Name) -> usize
     write_entry(buf, p, &value, a.view)
 }
 
-// The atomic cells of a family.
-fn write_atomics(buf: &mut [u32], p: usize, m: Machine, family: Family, n: usize) -> usize
-    requires { p + 33 * n ≤ length buf.old }
-    ensures wrote { Wrote buf.old p (in_turn (λ i. atomic_words (atomic_at m (name_in family i))) n) result buf.new }
+// The first n atomic cells that a function names.
+fn write_atomics<F: Fn(usize) -> Name>(
+    buf: &mut [u32],
+    p: usize,
+    m: Machine,
+    name: F,
+    n: usize,
+) -> usize
+    requires room { p + 33 * n ≤ length buf.old }
+    requires named { F.IsAlwaysCallable name }
+    ensures wrote { (g : ℕ → Name) → ((i : _) (a : Name) → F.post name i a → a ≡ g i)
+        → Wrote buf.old p (in_turn (λ i. atomic_words (atomic_at m (g i))) n) result buf.new }
     ensures value { result ≡ p + 33 * n }
 {
     let mut q = p;
-    let mut i: usize = 0;
-    while i < n {
-        q = write_cell(buf, q, m, parts::name_in(family, i));
-        i += 1;
+    for i in 0..n {
+        q = write_cell(buf, q, m, name(i));
     }
     q
 }
@@ -105,8 +105,8 @@ pub fn words_of(m: Machine) -> [u32; 1160]
     let p = write_threads(&mut image, p, m);
     let p = write_cell(&mut image, p, m, Name::Head);
     let p = write_cell(&mut image, p, m, Name::Tail);
-    let p = write_atomics(&mut image, p, m, Family::Flags, 8);
-    write_atomics(&mut image, p, m, Family::Statuses, 16);
+    let p = write_atomics(&mut image, p, m, Name::Flag, 8);
+    write_atomics(&mut image, p, m, Name::Status, 16);
     image
 }
 

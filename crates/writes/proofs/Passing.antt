@@ -5,10 +5,9 @@ use lib.Dec.{eqb}
 use mathlib.Core.Bool.{Bool, false}
 use mathlib.Core.Path.{◌≡◌, refl}
 use Rattle.laws.specs.Tests.{◌and◌}
+use Rattle.std.specs.Prelude.{Option, Some, None}
 use Rattle.writes.specs.History.{earlier, newer, record_stands, shown_by}
 use Rattle.writes.specs.Searched.{looked_at, stand_still}
-use Rattle.writes.specs.declared.Found.{Found}
-use Rattle.writes.specs.declared.Found.TheVariants.{Missing, Present}
 use Rattle.writes.specs.declared.Newest.{Newest}
 use Rattle.writes.specs.declared.Query.{Query}
 use Rattle.writes.specs.declared.Write.{Write}
@@ -16,10 +15,10 @@ use Rattle.writes.specs.declared.Write.{Write}
 still : (j b x : Bool) → j ≡ false → b ≡ stand_still j b x
 still j b x e = rw e
 
-unshown : (f : Found) (w : Write) (c t : ℕ) → (eqb w.cell c and eqb w.stamp t) ≡ false → f ≡ earlier f (shown_by w c t)
+unshown : (f : Option ℕ) (w : Write) (c t : ℕ) → (eqb w.cell c and eqb w.stamp t) ≡ false → f ≡ earlier f (shown_by w c t)
 unfolding shown_by
-unshown Missing w c t e = rw e
-unshown (Present v) w c t e = refl
+unshown None w c t e = rw e
+unshown (Some v) w c t e = refl
 
 module _ (q : Query) (w : Write) (j : q.judged ≡ false) where
   unjudged : (n : Newest) → (eqb w.cell q.cell and eqb w.stamp q.stamp) ≡ false → n ≡ newer q.looked.newest w q.cell

@@ -2,18 +2,17 @@
 use mathlib.Core.Path.{◌≡◌, refl, ap, ◌∙◌}
 use mathlib.Core.Bool.{true}
 use mathlib.Core.List.{List, [], ◌∷◌}
-use Prim.Native.Nat.{ℕ, zero, suc, ◌<◌, ◌≤◌, min}
-use native.Mathlib.Nat.{zero-min, min-zero, suc-min-suc}
+use Prim.Native.Nat.{ℕ, zero, suc, ◌<◌, ◌≤◌}
 use native.Mathlib.Omega.{arith}
 use lib.ListN.{length, set, take}
 use lib.Seq.{set_out}
 use Rattle.laws.specs.Tests.{all_below}
+use Rattle.std.specs.Prelude.{Some}
 use Rattle.writes.specs.History.{earlier, shown_by, found, newest, records_stand, search_of}
 use Rattle.writes.specs.Records.{no_write, nth, recorded, fill_of}
 use Rattle.writes.specs.Searched.{sought_of, looked_at, searched}
 use Rattle.writes.specs.declared.Access.{Access}
 use Rattle.writes.specs.declared.Access.TheVariants.{NoAccess, Reads, Writes}
-use Rattle.writes.specs.declared.Found.TheVariants.{Present}
 use Rattle.writes.specs.declared.Query.{Query}
 use Rattle.writes.specs.declared.Write.{Write}
 
@@ -34,16 +33,10 @@ found_alike p q (w ∷ ws) c t f =
     found_alike (looked_at p w) (looked_at q w) ws c t (λ i. earlier (f i) (shown_by w (c i) (t i)))
 
 -- what is found once stays found
-pub found_stays : (q : Query) (ws : List Write) (v : ℕ) → q.looked.found ≡ Present v → (searched q ws).looked.found ≡ Present v
+pub found_stays : (q : Query) (ws : List Write) (v : ℕ) → q.looked.found ≡ Some v → (searched q ws).looked.found ≡ Some v
 unfolding searched looked_at
 found_stays q [] v e = e
 found_stays q (w ∷ ws) v e = found_stays (looked_at q w) ws v (rw e)
-
--- there are no more records than there are
-pub take_less : (n : ℕ) (ws : List Write) → take (min n (length ws)) ws ≡ take n ws
-take_less zero ws = rw (zero-min (length ws))
-take_less (suc n) [] = rw (min-zero (suc n))
-take_less (suc n) (w ∷ ws) = rw (suc-min-suc n (length ws), take_less n ws)
 
 module _ (k first : ℕ) (ws : List Write) (c t : ℕ) where
   -- what is asked and what is found in the first n records

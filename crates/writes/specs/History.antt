@@ -1,30 +1,25 @@
 -- The history of a cell: its first write at stamp 0, then the held records that name it, in order of happening. Assumes nothing.
-use Rattle.std.specs.Prelude.{Bool, true, false, List, ℕ, zero, suc, leb, ltb, eqb}
+use Rattle.std.specs.Prelude.{Bool, true, false, List, Option, Some, None, ℕ, zero, suc, leb, ltb, eqb}
+use Rattle.std.specs.Bool.{then_some}
 use Rattle.laws.specs.Tests.{◌and◌, all_below}
 use Rattle.step.specs.Limit.{most}
 use Rattle.writes.specs.Records.{nth}
-use Rattle.writes.specs.declared.Found.{Found}
-use Rattle.writes.specs.declared.Found.TheVariants.{Missing, Present}
 use Rattle.writes.specs.declared.Looked.{Looked}
 use Rattle.writes.specs.declared.Newest.{Newest}
 use Rattle.writes.specs.declared.Write.{Write}
 
 -- Of equal stamps the first write counts, else the earliest record.
-abbrev pub earlier : Found → Found → Found
-earlier Missing f = f
-earlier (Present v) f = Present v
-
-abbrev pub present_if : Bool → ℕ → Found
-present_if true v = Present v
-present_if false v = Missing
+abbrev pub earlier : Option ℕ → Option ℕ → Option ℕ
+earlier None g = g
+earlier (Some v) g = Some v
 
 -- a record shows its value at cell c and stamp t if it is a write to c at t
-unfoldable pub shown_by : Write → ℕ → ℕ → Found
-shown_by w c t = present_if (eqb w.cell c and eqb w.stamp t) w.value
+unfoldable pub shown_by : Write → ℕ → ℕ → Option ℕ
+shown_by w c t = then_some (eqb w.cell c and eqb w.stamp t) w.value
 
 -- the value at stamp t of cell c, whose first write has the value first, in the first n records
-unfoldable pub found : ℕ → List Write → ℕ → ℕ → ℕ → Found
-found first ws c t zero = present_if (eqb t 0) first
+unfoldable pub found : ℕ → List Write → ℕ → ℕ → ℕ → Option ℕ
+found first ws c t zero = then_some (eqb t 0) first
 found first ws c t (suc n) = earlier (found first ws c t n) (shown_by (nth ws n) c t)
 
 abbrev pub newest_if : Bool → Write → Newest → Newest

@@ -1,7 +1,8 @@
 -- One search answers all that is asked of the list: a fold over its records, in order of happening. Assumes nothing.
 use Rattle.std.specs.Prelude.{Bool, true, false, List, [], ◌∷◌, ℕ, eqb}
+use Rattle.std.specs.Bool.{then_some}
 use Rattle.laws.specs.Tests.{◌and◌}
-use Rattle.writes.specs.History.{earlier, present_if, shown_by, newer, record_stands}
+use Rattle.writes.specs.History.{earlier, shown_by, newer, record_stands}
 use Rattle.writes.specs.declared.Query.{Query}
 use Rattle.writes.specs.declared.Write.{Write}
 
@@ -13,7 +14,7 @@ sought_of k first c t =
       cells = k;
       cell = c;
       stamp = t;
-      looked = record { stand = true; found = present_if (eqb t 0) first; newest = record { stamp = 0; value = first } };
+      looked = record { stand = true; found = then_some (eqb t 0) first; newest = record { stamp = 0; value = first } };
     }
 
 -- the same of records that are known to stand

@@ -1,9 +1,9 @@
 // The list of writes, lent as a slice of records. One search, one store: nothing else touches it.
 #![tactic(auto)]
 
-ghost use Rattle.std.specs.Prelude.{◌≡◌, min, set, take};
+ghost use Rattle.std.specs.Prelude.{◌≡◌, set, take};
 ghost use Rattle.writes.specs.Records.{no_write, fill, fill_of};
-ghost use Rattle.writes.specs.History.{earlier, present_if, shown_by, newer, record_stands};
+ghost use Rattle.writes.specs.History.{shown_by, newer, record_stands};
 ghost use Rattle.writes.specs.Searched.{sought_of, unjudged_of, stand_still, looked_at, searched};
 
 use laws::both;
@@ -18,13 +18,6 @@ pub struct Write {
     pub value: u32,
 }
 
-// What a stamp finds in a cell's history.
-#[derive(Clone, Copy)]
-pub enum Found {
-    Missing,
-    Present { value: u32 },
-}
-
 // The greatest stamp of a cell's history and the value there.
 #[derive(Clone, Copy)]
 pub struct Newest {
@@ -32,11 +25,11 @@ pub struct Newest {
     pub value: u32,
 }
 
-// What a search answers: whether every record stands, the value at the stamp asked, the newest write of the cell asked.
+// What a search answers: whether every record stands, the value at the stamp asked if there is one, the newest write of the cell asked.
 #[derive(Clone, Copy)]
 pub struct Looked {
     pub stand: bool,
-    pub found: Found,
+    pub found: Option<u32>,
     pub newest: Newest,
 }
 
@@ -65,35 +58,10 @@ pub struct Fill {
     pub write: Write,
 }
 
-fn less(x: usize, y: usize) -> usize
-    ensures { result ≡ min x y }
-{
-    if x < y { x } else { y }
-}
-
-fn present_if(test: bool, value: u32) -> Found
-    ensures { result ≡ present_if test value }
-{
-    if test {
-        Found::Present { value }
-    } else {
-        Found::Missing
-    }
-}
-
-fn earlier_of(f: Found, g: Found) -> Found
-    ensures { result ≡ earlier f g }
-{
-    match f {
-        Found::Missing => g,
-        Found::Present { value } => Found::Present { value },
-    }
-}
-
-fn shown_by(w: Write, cell: u32, stamp: u32) -> Found
+fn shown_by(w: Write, cell: u32, stamp: u32) -> Option<u32>
     ensures { result ≡ shown_by w cell stamp }
 {
-    present_if(both(w.cell == cell, w.stamp == stamp), w.value)
+    both(w.cell == cell, w.stamp == stamp).then_some(w.value)
 }
 
 fn newer_of(s: Newest, w: Write, cell: u32) -> Newest
@@ -125,7 +93,7 @@ fn record_stands(w: Write, k: usize) -> bool
 pub fn sought(k: usize, first: u32, cell: u32, stamp: u32) -> Query
     ensures { result ≡ sought_of k first cell stamp }
 {
-    let found = present_if(stamp == 0, first);
+    let found = (stamp == 0).then_some(first);
     let newest = Newest {
         stamp: 0,
         value: first,
@@ -148,9 +116,7 @@ pub fn sought(k: usize, first: u32, cell: u32, stamp: u32) -> Query
 pub fn unjudged(q: Query) -> Query
     ensures { result ≡ unjudged_of q }
 {
-    let mut r = q;
-    r.judged = false;
-    r
+    Query { judged: false, ..q }
 }
 
 // The records before and this one stand, where that is judged.
@@ -169,21 +135,14 @@ fn look_whole(q: Query, w: Write) -> Query
 {
     let so_far = q.looked;
     let stand = stand_still(q.judged, so_far.stand, w, q.cells);
-    let before = so_far.found;
-    let found = earlier_of(before, shown_by(w, q.cell, q.stamp));
+    let found = so_far.found.or(shown_by(w, q.cell, q.stamp));
     let newest = newer_of(so_far.newest, w, q.cell);
     let looked = Looked {
         stand,
         found,
         newest,
     };
-    Query {
-        judged: q.judged,
-        cells: q.cells,
-        cell: q.cell,
-        stamp: q.stamp,
-        looked,
-    }
+    Query { looked, ..q }
 }
 
 // One record more. Where none is judged, most change nothing: those of other cells, and those at other stamps that are not newer.
@@ -208,6 +167,7 @@ fn look_at(q: Query, w: Write) -> Query
         stamp: w.stamp,
         value: w.value,
     };
+    // Copies with a field changed: with literals by `..` the program takes more instructions.
     let mut looked = so_far;
     looked.newest = newest;
     let mut next = q;
@@ -219,12 +179,9 @@ fn look_at(q: Query, w: Write) -> Query
 pub fn search(ws: &[Write], n: usize, from: Query) -> Query
     ensures { result ≡ searched from (take n ws.now) }
 {
-    let end = less(n, ws.len());
     let mut q = from;
-    let mut i: usize = 0;
-    while i < end {
-        q = look_at(q, ws[i]);
-        i = i + 1;
+    for w in &ws[..n.min(ws.len())] {
+        q = look_at(q, *w);
     }
     q
 }
@@ -236,29 +193,24 @@ pub fn search_kept(ws: [Write; 1024], n: usize, from: Query) -> Query
     search(&ws, n, from)
 }
 
-// Past the last of the records lent, where nothing is stored.
-fn no_fill(lent: usize) -> Fill
-    ensures { result ≡ fill lent no_write }
-{
-    let write = Write {
-        cell: 0,
-        stamp: 0,
-        value: 0,
-    };
-    Fill { at: lent, write }
-}
-
-// The record after the held ones, if the access writes one.
+// The record after the held ones, if the access writes one; else one past the last of the records lent, where nothing is stored.
+#[tactic(auto, unfolding(crate::specs::Records::fill_of))]
 pub fn fill_of(access: Access, held: usize, lent: usize) -> Fill
     ensures { result ≡ fill_of access held lent }
 {
     match access {
-        Access::NoAccess => no_fill(lent),
-        Access::Reads { cell: _, stamp: _ } => no_fill(lent),
         Access::Writes { cell, stamp, value } => {
             let write = Write { cell, stamp, value };
             Fill { at: held, write }
         }
+        _ => Fill {
+            at: lent,
+            write: Write {
+                cell: 0,
+                stamp: 0,
+                value: 0,
+            },
+        },
     }
 }
 
@@ -266,6 +218,7 @@ pub fn fill_of(access: Access, held: usize, lent: usize) -> Fill
 pub fn store(ws: &mut [Write], at: usize, w: Write)
     ensures { ws.new ≡ set ws.old at w }
 {
+    // By index: after a write through `get_mut` a proof knows the slice's length, and no element.
     if at < ws.len() {
         ws[at] = w;
     }

@@ -1,13 +1,10 @@
+use borrow.Author.Rules.{rules}
 use Rattle.rules.specs.Access.{accessed}
 use Rattle.decision.proofs.make_access.Goals as goal
 
 pub returns-in-NoAccess : goal.returns-in-NoAccess
 unfolding accessed
-returns-in-NoAccess c = rw c.in-NoAccess.is
-
-pub returns-in-Reads : goal.returns-in-Reads
-unfolding accessed
-returns-in-Reads c = rw c.in-Reads.is
+returns-in-NoAccess c = search rules
 
 pub returns-in-Writes : goal.returns-in-Writes
 unfolding accessed

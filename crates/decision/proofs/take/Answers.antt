@@ -11,4 +11,4 @@ act-done-requires c = record {
 
 pub returns : goal.returns
 unfolding taken_by
-returns c = rw (c.act-done.ensures, c.value_of.ensures, c.make_access.ensures, c.index-i.ensures)
+returns c = rw (c.act-done.ensures, c.unwrap_or.ensures, c.make_access.ensures, c.index-i.ensures)

@@ -1,24 +1,24 @@
-use mathlib.Core.Path.{sym}
-use Rattle.form.proofs.Range.{count_in, count_low, count_high, thousandths_in, thousandths_out, nothing_in, nothing_out}
+use mathlib.Core.Path.{◌≡◌, sym}
+use Rattle.form.proofs.Range.{ends, limited_inside, limited_below, limited_above}
 use Rattle.form.proofs.limit.Goals as goal
+use Rattle.form.proofs.limit.Goals.{Joined-kind, in-Nothing, in-Count, in-Thousandths, else-low-v-via-then-low-v+else-v-high, else-low-v-via-else-low-v}
 
-pub returns-then-v-low : goal.returns-then-v-low
-returns-then-v-low c = rw c.in-Count.is (sym (count_low _ _ _ c.if-v-low.true))
-
-pub returns-then-v-eq0 : goal.returns-then-v-eq0
-returns-then-v-eq0 c = rw c.in-Nothing.is (sym (nothing_in _ c.if-v-eq0.true))
-
-pub returns-else-v-eq0 : goal.returns-else-v-eq0
-returns-else-v-eq0 c = rw c.in-Nothing.is (sym (nothing_out _ c.if-v-eq0.false))
+ends_are : (c : Joined-kind) → c.match-kind.low ≡ ends c.args.kind
+ends_are c = elim c.match-kind.branch [
+  | in-Nothing w ↦ rw (w.low-is, w.in-Nothing.is)
+  | in-Count w ↦ rw (w.low-is, w.in-Count.is)
+  | in-Thousandths w ↦ rw (w.low-is, w.in-Thousandths.is)
+]
 
 pub returns-then-v-high : goal.returns-then-v-high
-returns-then-v-high c = rw c.in-Count.is (sym (count_in _ _ _ c.if-v-low.false c.if-v-high.true))
+returns-then-v-high c =
+    let e = ends_are (goal.at.returns-then-v-high c).Joined-kind in
+    sym (limited_inside _ _ (rw e at c.if-low-v.true) (rw e at c.if-v-high.true))
 
-pub returns-else-v-high : goal.returns-else-v-high
-returns-else-v-high c = rw c.in-Count.is (sym (count_high _ _ _ c.if-v-low.false c.if-v-high.false))
-
-pub returns-then-v : goal.returns-then-v
-returns-then-v c = rw c.in-Thousandths.is (sym (thousandths_in _ c.if-v.true))
-
-pub returns-else-v : goal.returns-else-v
-returns-else-v c = rw c.in-Thousandths.is (sym (thousandths_out _ c.if-v.false))
+pub returns-else-low-v : goal.returns-else-low-v
+returns-else-low-v c =
+    let e = ends_are (goal.at.returns-else-low-v c).Joined-kind in
+    elim c.else-low-v.branch [
+      | else-low-v-via-then-low-v+else-v-high w ↦ sym (limited_above _ _ (rw e at w.if-low-v.true) (rw e at w.if-v-high.false))
+      | else-low-v-via-else-low-v w ↦ sym (limited_below _ _ (rw e at w.if-low-v.false))
+    ]

@@ -1,5 +1,5 @@
-use Prim.Native.Nat.{◌-◌}
-use lib.ListN.{length, length-set}
+use Prim.Native.Nat.{◌+◌, ◌-◌}
+use lib.ListN.{length}
 use mathlib.Core.List.{List, ◌∷◌, map}
 use mathlib.Core.Path.{◌∙◌, ◌≡◌, ap, refl, sym}
 use native.Mathlib.Omega.{arith}
@@ -8,26 +8,30 @@ use Rattle.form.specs.declared.Line.{Line}
 use Rattle.fresh.proofs.Lines.{from_end, from_line, stored}
 use Rattle.texts.specs.Schedule.{lines_from, weight_in}
 use Rattle.fresh.proofs.read_weights.Goals as goal
-use Rattle.fresh.proofs.read_weights.Goals.{After-weight_in}
 
-more : (c : After-weight_in) → map weight_in (lines_from c.loop-left.left WeightDue c.args.text.now c.loop-left.at) ≡ c.weight_in.result ∷ map weight_in (lines_from (c.loop-left.left - 1) WeightDue c.args.text.now c.in-Took.p)
-more c =
-    rw (from_line c.loop-left.left WeightDue c.args.text.now c.loop-left.at _ c.loop-left-test.true (sym c.line_of.ensures ∙ c.in-Took.is), c.weight_in.ensures)
+pub loop-n-init : goal.loop-n-init
+loop-n-init c = let all : c.args.s.count - 0 ≡ c.args.s.count = omega arith in rw all (refl, omega arith)
 
-pub loop-left-init : goal.loop-left-init
-loop-left-init c = (refl, omega arith, refl, omega arith)
+pub returns-in-Err : goal.returns-in-Err
+returns-in-Err c =
+    let read = sym c.line_of.ensures ∙ c.in-Err.is in
+    let none = from_line c.args.s.count c.loop-n.n WeightDue c.args.text.now c.loop-n.at _ c.loop-n-test.true read in
+    let e = ap (λ (xs : List Line). map weight_in xs) none in
+    record { next = omega (arith, ap length e, c.loop-n.invariant.1); list = rw e at c.loop-n.invariant.0 }
 
-pub bounds-room-n : goal.bounds-room-n
-bounds-room-n c =
-    omega (arith, ap length (more (goal.at.bounds-room-n c).After-weight_in), c.requires)
-
-pub returns-in-Fault : goal.returns-in-Fault
-returns-in-Fault c =
-    let e = ap (λ (xs : List Line). map weight_in xs) (from_line c.loop-left.left WeightDue c.args.text.now c.loop-left.at _ c.loop-left-test.true (sym c.line_of.ensures ∙ c.in-Fault.is)) in record { next = omega (arith, ap length e); list = rw e at c.loop-left.invariant.0 }
-
-pub loop-left-preserved : goal.loop-left-preserved
-loop-left-preserved c =
-    (stored c.loop-left.room c.loop-left.n c.weight_in.result (map weight_in (lines_from (c.loop-left.left - 1) WeightDue c.args.text.now c.in-Took.p)) ∙ rw (more (goal.at.loop-left-preserved c).After-weight_in) at c.loop-left.invariant.0, omega (arith, ap length (more (goal.at.loop-left-preserved c).After-weight_in)), length-set c.loop-left.room c.loop-left.n c.weight_in.result ∙ c.loop-left.invariant.2, omega arith)
+pub loop-n-preserved : goal.loop-n-preserved
+loop-n-preserved c =
+    let left = map weight_in (lines_from (c.args.s.count - (c.loop-n.n + 1)) WeightDue c.args.text.now c.in-Ok.x.next) in
+    let read = sym c.line_of.ensures ∙ c.in-Ok.is in
+    let line = from_line c.args.s.count c.loop-n.n WeightDue c.args.text.now c.loop-n.at _ c.loop-n-test.true read in
+    let e : map weight_in (lines_from (c.args.s.count - c.loop-n.n) WeightDue c.args.text.now c.loop-n.at) ≡ c.weight_in.result ∷ left
+    = rw (line, c.weight_in.ensures) refl in
+    let held = stored c.loop-n.room c.loop-n.n c.weight_in.result left ∙ rw e at c.loop-n.invariant.0 in
+    (held, omega (arith, ap length e, c.loop-n.invariant.1))
 
 pub returns : goal.returns
-returns c = let e = ap (λ (xs : List Line). map weight_in xs) (from_end c.loop-left.left WeightDue c.args.text.now c.loop-left.at (omega arith)) in record { next = omega (arith, ap length e); list = rw e at c.loop-left.invariant.0 }
+returns c =
+    let none = from_end (c.args.s.count - c.loop-n.n) WeightDue c.args.text.now c.loop-n.at (omega arith) in
+    let e = ap (λ (xs : List Line). map weight_in xs) none in
+    let all : c.loop-n.n ≡ c.args.s.count = omega arith in
+    record { next = omega (arith, ap length e, c.loop-n.invariant.1); list = rw e at c.loop-n.invariant.0 }

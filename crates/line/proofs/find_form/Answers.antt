@@ -1,23 +1,17 @@
-use mathlib.Core.Path.{refl, sym, ◌∙◌}
+use mathlib.Core.Path.{sym, ◌∙◌}
+use Prim.Native.Nat.{◌+◌, ◌-◌}
 use native.Mathlib.Omega.{arith}
-use borrow.Author.Rules.{rules}
 use Rattle.line.proofs.Laws.{find_end, find_here}
 use Rattle.line.proofs.find_form.Goals as goal
 
-pub loop-left-init : goal.loop-left-init
-loop-left-init c = (refl, search rules)
+pub returns-in-Ok : goal.returns-in-Ok
+returns-in-Ok c =
+    let left = c.args.from + c.args.count - (c.loop-form.form + 1) in
+    sym (find_here _ _ _ _ _ left _ (omega arith) (sym c.read_form.ensures ∙ c.in-Ok.is)) ∙ c.loop-form.invariant
 
-pub returns-in-Read : goal.returns-in-Read
-returns-in-Read c =
-    sym (find_here _ _ _ _ _ _ c.loop-left-test.true (sym c.read_form.ensures ∙ c.in-Read.is)) ∙ c.loop-left.invariant.0
-
-pub returns-in-RangeAt : goal.returns-in-RangeAt
-returns-in-RangeAt c =
-    sym (find_here _ _ _ _ _ _ c.loop-left-test.true (sym c.read_form.ensures ∙ c.in-RangeAt.is)) ∙ c.loop-left.invariant.0
-
-pub loop-left-preserved : goal.loop-left-preserved
-loop-left-preserved c =
-    (rw c.larger-far.ensures (sym (find_here _ _ _ _ _ _ c.loop-left-test.true (sym c.read_form.ensures ∙ c.in-NotForm.is)) ∙ c.loop-left.invariant.0), omega arith)
+pub loop-form-preserved : goal.loop-form-preserved
+loop-form-preserved c =
+    rw c.max-far.ensures (sym (find_here _ _ _ _ _ _ _ (omega arith) (sym c.read_form.ensures ∙ c.in-Err.is)) ∙ c.loop-form.invariant)
 
 pub returns : goal.returns
-returns c = sym (find_end _ _ _ _ _ (omega arith)) ∙ c.loop-left.invariant.0
+returns c = sym (find_end _ _ _ _ _ (omega arith)) ∙ c.loop-form.invariant

@@ -1,14 +1,14 @@
 use Rattle.line.specs.Row.{read_line}
 use Rattle.line.proofs.read_line.Goals as goal
 
-pub returns-in-Read : goal.returns-in-Read
+pub returns-in-Ok-value : goal.returns-in-Ok-value
 unfolding read_line
-returns-in-Read c = rw (← c.read_row.ensures, c.in-Read.is, c.line_of.ensures)
+returns-in-Ok-value c = rw (← c.read_row.ensures, c.in-Ok.is, c.in-Ok-value.is, c.line_of.ensures)
 
-pub returns-in-RangeAt : goal.returns-in-RangeAt
+pub returns-in-Err-value : goal.returns-in-Err-value
 unfolding read_line
-returns-in-RangeAt c = rw (← c.read_row.ensures, c.in-RangeAt.is)
+returns-in-Err-value c = rw (← c.read_row.ensures, c.in-Ok.is, c.in-Err-value.is)
 
-pub returns-in-NotForm : goal.returns-in-NotForm
+pub returns-in-Err : goal.returns-in-Err
 unfolding read_line
-returns-in-NotForm c = rw (← c.read_row.ensures, c.in-NotForm.is)
+returns-in-Err c = rw (← c.read_row.ensures, c.in-Err.is)

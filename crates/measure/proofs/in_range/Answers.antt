@@ -1,8 +1,5 @@
-use Rattle.measure.proofs.Widths.{within_limited}
+use Rattle.measure.proofs.Widths.{some_limited}
 use Rattle.measure.proofs.in_range.Goals as goal
 
-pub returns-in-Within : goal.returns-in-Within
-returns-in-Within c = rw (← within_limited, ← c.limit.ensures, c.in-Within.is)
-
-pub returns-in-Outside : goal.returns-in-Outside
-returns-in-Outside c = rw (← within_limited, ← c.limit.ensures, c.in-Outside.is)
+pub returns : goal.returns
+returns c = rw (← some_limited, ← c.limit.ensures) c.is_some.ensures

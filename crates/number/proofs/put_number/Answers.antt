@@ -18,6 +18,6 @@ write_number-requires c = room_yes _ _ _ (roomy (goal.at.write_number-requires c
 pub returns-then-has_room : goal.returns-then-has_room
 returns-then-has_room c = put_done (roomy (goal.at.returns-then-has_room c).Then-has_room) c.write_number.ensures
 
-pub returns : goal.returns
-returns c =
+pub returns-else-has_room : goal.returns-else-has_room
+returns-else-has_room c =
     put_short _ _ _ (rw (← c.number_width.ensures) (sym c.has_room.ensures ∙ c.if-has_room.false))

@@ -1,23 +1,19 @@
-use mathlib.Core.Path.{sym}
-use borrow.Author.Tests.{le-leb, lt-leb}
+use mathlib.Core.Path.{◌∙◌}
+use Prim.Native.Nat.{ℕ}
 use borrow.Author.Rules.{rules}
-use Rattle.laws.proofs.Tests.{all_none, all_more, all_fails, all_done}
+use borrow.Author.Tests.{tests}
+use denote.Ref.{Bor}
+use lib.Dec.{leb}
+use Rattle.std.proofs.iter.Yields.{fronts}
+use Rattle.std.proofs.lemmas.Iterator.{YieldsList-from_slice}
+use Rattle.std.proofs.lemmas.Iterator.Search.{all_from_yields_List}
+use Rattle.laws.proofs.Below.{below_list}
 use Rattle.opening.specs.Opening.{weights_stand}
+use Rattle.step.specs.Limit.{most}
 use Rattle.opening.proofs.weights_stand.Goals as goal
-
-pub loop-i-init : goal.loop-i-init
-loop-i-init c = (search rules, all_none _)
-
-pub returns-then-number_at-gt-MOST : goal.returns-then-number_at-gt-MOST
-unfolding weights_stand
-returns-then-number_at-gt-MOST c =
-    sym (all_fails _ c.loop-i.i _ c.loop-i-test.true (rw (← c.number_at.ensures, lt-leb _ _ c.if-number_at-gt-MOST.true)))
-
-pub loop-i-preserved : goal.loop-i-preserved
-loop-i-preserved c =
-    (search rules, all_more _ c.loop-i.i c.loop-i.invariant.1 (rw (← c.number_at.ensures, le-leb _ _ c.if-number_at-gt-MOST.false)))
 
 pub returns : goal.returns
 unfolding weights_stand
 returns c =
-    sym (all_done _ c.loop-i.i _ c.loop-i.invariant.0 c.loop-i-test.false c.loop-i.invariant.1)
+    all_from_yields_List {A = Bor ℕ} {steps = fronts} {v = λ (w : Bor ℕ). w.now} (λ w. leb w most) _ _ c.all.result c.all.ensures.ran
+    (YieldsList-from_slice c.args.s.now cc) (λ x b q k. search (rules, tests)) ∙ below_list (λ w. leb w most) c.args.s.now 0

@@ -6,16 +6,15 @@ pub returns-then-room-lt2 : goal.returns-then-room-lt2
 unfolding refused_call
 returns-then-room-lt2 c = rw (lt-ltb _ _ c.if-room-lt2.true)
 
-pub returns-then-not-step : goal.returns-then-not-step
+pub returns-then-not-is_asked : goal.returns-then-not-is_asked
 unfolding refused_call
-returns-then-not-step c = rw (le-ltb _ _ c.if-room-lt2.false, ← c.is_asked-step.ensures, c.if-not-step.true)
+returns-then-not-is_asked c = rw (le-ltb _ _ c.if-room-lt2.false, ← c.is_asked.ensures, c.if-not-is_asked.true)
 
-pub returns-then-image : goal.returns-then-image
+pub returns-then-not-is_image : goal.returns-then-not-is_image
 unfolding refused_call
-returns-then-image c =
-    rw (le-ltb _ _ c.if-room-lt2.false, ← c.is_asked-step.ensures, c.if-not-step.false, ← c.is_image-image.ensures, c.if-image.true)
+returns-then-not-is_image c =
+    rw (le-ltb _ _ c.if-room-lt2.false, ← c.is_asked.ensures, c.if-not-is_asked.false, ← c.is_image.ensures, c.if-not-is_image.true)
 
-pub returns-else-image : goal.returns-else-image
+pub returns : goal.returns
 unfolding refused_call
-returns-else-image c =
-    rw (le-ltb _ _ c.if-room-lt2.false, ← c.is_asked-step.ensures, c.if-not-step.false, ← c.is_image-image.ensures, c.if-image.false)
+returns c = rw (le-ltb _ _ c.if-room-lt2.false, ← c.is_asked.ensures, c.if-not-is_asked.false, ← c.is_image.ensures, c.if-not-is_image.false)

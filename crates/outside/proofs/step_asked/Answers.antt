@@ -6,9 +6,9 @@ unfolding step_asked
 returns c =
     rw (
       c.verb_of-verb.ensures,
-      c.number_at-c.ensures,
-      c.number_at-b.ensures,
-      c.number_at-a.ensures,
-      c.number_at-n.ensures,
-      c.number_at-thread.ensures,
+      c.item_or-c.ensures,
+      c.item_or-b.ensures,
+      c.item_or-a.ensures,
+      c.item_or-n.ensures,
+      c.item_or-thread.ensures,
     )

@@ -31,4 +31,4 @@ returns-in-Got c = rw c.in-Got.is
 
 pub returns-in-Refused : goal.returns-in-Refused
 unfolding answer_line
-returns-in-Refused c = rw c.in-Refused.is
+returns-in-Refused c = rw (c.in-Refused.is, c.number.ensures)

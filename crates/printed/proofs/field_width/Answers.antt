@@ -1,3 +1,4 @@
+use mathlib.Core.Path.{refl}
 use native.Mathlib.Omega.{arith}
 use Rattle.number.proofs.Decimal.{length_pow}
 use Rattle.printed.proofs.Laws.{weight_fits, word_fits}
@@ -6,7 +7,7 @@ use Rattle.printed.proofs.field_width.Goals as goal
 
 pub returns-in-Says : goal.returns-in-Says
 unfolding field_text
-returns-in-Says c = rw c.in-Says.is (c.word_width.ensures, rw c.word_width.ensures (word_fits _))
+returns-in-Says c = rw c.in-Says.is (rw c.letters.ensures refl, rw c.letters.ensures (word_fits _))
 
 pub returns-in-Counts : goal.returns-in-Counts
 unfolding field_text

@@ -3,7 +3,7 @@ use Rattle.printed.proofs.put_field.Goals as goal
 
 pub returns-in-Says : goal.returns-in-Says
 unfolding field_text
-returns-in-Says c = rw c.in-Says.is c.put_word.ensures
+returns-in-Says c = rw c.in-Says.is (rw c.letters.ensures at c.put_bytes.ensures)
 
 pub returns-in-Counts : goal.returns-in-Counts
 unfolding field_text

@@ -16,5 +16,5 @@ write_printed-requires c = room_yes _ _ _ (roomy (goal.at.write_printed-requires
 pub returns-then-has_room : goal.returns-then-has_room
 returns-then-has_room c = put_done (roomy (goal.at.returns-then-has_room c).Then-has_room) c.write_printed.ensures
 
-pub returns : goal.returns
-returns c = put_short _ _ _ (rw (← c.printed_width.ensures) (sym c.has_room.ensures ∙ c.if-has_room.false))
+pub returns-else-has_room : goal.returns-else-has_room
+returns-else-has_room c = put_short _ _ _ (rw (← c.printed_width.ensures) (sym c.has_room.ensures ∙ c.if-has_room.false))

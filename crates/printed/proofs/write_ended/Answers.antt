@@ -1,11 +1,7 @@
-use native.Mathlib.Omega.{arith}
-use Rattle.number.proofs.Stores.{wrote_length, wrote_then}
-use Rattle.printed.proofs.Laws.{length_ended}
 use Rattle.printed.specs.Printed.{ended_text}
-use Rattle.writer.proofs.Laws.{wrote_of}
+use Rattle.writer.proofs.Laws.{wrote_two}
 use Rattle.printed.proofs.write_ended.Goals as goal
 
 pub returns : goal.returns
 unfolding ended_text
-returns c =
-    let n = length_ended c.args.f c.args.b in let w = wrote_of (omega (arith, n)) c.put_field-w.ensures c.next_or-p.ensures in wrote_then w (wrote_of (omega (arith, n, wrote_length w, w.next)) c.put_byte-e.ensures c.next_or.ensures)
+returns c = wrote_two _ _ c.requires c.put_field.ensures c.unwrap_or-p.ensures c.put_byte.ensures c.unwrap_or.ensures

@@ -1,4 +1,4 @@
 use Rattle.report.proofs.show_upto.Goals as goal
 
 pub show_first-requires : goal.show_first-requires
-show_first-requires c = rw c.in-Next.is at c.requires
+show_first-requires c = rw c.in-Some.is at c.requires

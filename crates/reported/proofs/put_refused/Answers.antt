@@ -3,12 +3,12 @@ use Rattle.reported.proofs.Page.{put_one, refused_two}
 use Rattle.reported.specs.Report.{heading, refused_lines}
 use Rattle.reported.proofs.put_refused.Goals as goal
 
-pub returns-then-refused-eq0 : goal.returns-then-refused-eq0
+pub returns-in-None : goal.returns-in-None
 unfolding refused_lines
-returns-then-refused-eq0 c =
-    rw c.if-refused-eq0.true (put_one c.args.out.now c.args.upto (heading Refused 0) (rw c.count_line.ensures at c.put_next.ensures))
+returns-in-None c =
+    rw c.in-None.is (put_one c.args.out.now c.args.upto (heading Refused 0) (rw c.count_line.ensures at c.put_next.ensures))
 
-pub returns : goal.returns
-unfolding refused_lines
-returns c =
-    refused_two c.args.out.now c.args.upto c.args.taken c.args.refused c.if-refused-eq0.false (rw c.count_line-2.ensures at c.put_next-w.ensures) c.put_next-2.ensures
+pub returns-in-Some : goal.returns-in-Some
+returns-in-Some c =
+    rw c.in-Some.is
+    (refused_two c.args.out.now c.args.upto c.args.taken c.in-Some.reason (rw c.count_line-in-Some.ensures at c.put_next-w.ensures) (rw c.number-number.ensures at c.put_next-in-Some.ensures))

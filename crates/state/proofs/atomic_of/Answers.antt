@@ -11,8 +11,8 @@ returns-in-Tail c = rw c.in-Tail.is
 
 pub returns-in-Flag : goal.returns-in-Flag
 unfolding atomic_at
-returns-in-Flag c = rw (c.in-Flag.is, c.flag_in.ensures)
+returns-in-Flag c = rw (c.in-Flag.is, c.item_in.ensures, c.zero_atomic.ensures)
 
 pub returns-in-Status : goal.returns-in-Status
 unfolding atomic_at
-returns-in-Status c = rw (c.in-Status.is, c.status_in.ensures)
+returns-in-Status c = rw (c.in-Status.is, c.item_in-in-Status.ensures, c.zero_atomic-in-Status.ensures)

@@ -3,4 +3,4 @@ use Rattle.state.proofs.place_of.Goals as goal
 
 pub returns : goal.returns
 unfolding place
-returns c = rw c.thread_in-thread.ensures
+returns c = rw c.item_in-thread.ensures

@@ -3,4 +3,4 @@ use Rattle.state.proofs.row_of.Goals as goal
 
 pub returns : goal.returns
 unfolding row
-returns c = c.row_in.ensures
+returns c = rw (c.item_in.ensures, c.zero_view.ensures)

@@ -11,8 +11,8 @@ returns-in-Tail c = rw c.in-Tail.is
 
 pub returns-in-Flag : goal.returns-in-Flag
 unfolding with_atomic
-returns-in-Flag c = rw (c.in-Flag.is, c.flags_with-changed.ensures)
+returns-in-Flag c = rw (c.in-Flag.is, c.with_item-changed.ensures)
 
 pub returns-in-Status : goal.returns-in-Status
 unfolding with_atomic
-returns-in-Status c = rw (c.in-Status.is, c.statuses_with-changed.ensures)
+returns-in-Status c = rw (c.in-Status.is, c.with_item-changed-in-Status.ensures)

@@ -3,4 +3,4 @@ use Rattle.state.proofs.with_place.Goals as goal
 
 pub returns : goal.returns
 unfolding with_place
-returns c = rw c.threads_with-changed.ensures
+returns c = rw c.with_item-changed.ensures

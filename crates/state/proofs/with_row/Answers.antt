@@ -3,4 +3,4 @@ use Rattle.state.proofs.with_row.Goals as goal
 
 pub returns : goal.returns
 unfolding with_row
-returns c = rw c.rows_with-changed.ensures
+returns c = rw c.with_item-changed.ensures

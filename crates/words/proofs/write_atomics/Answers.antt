@@ -8,14 +8,18 @@ use Rattle.state.specs.declared.Name.{Name}
 use Rattle.words.proofs.write_atomics.Goals as goal
 
 pub loop-i-init : goal.loop-i-init
-loop-i-init c = (search rules, search rules, refl, no_turn _ _ _)
+loop-i-init g c = (search rules, refl, λ h k. no_turn _ _ _)
 
 pub loop-i-preserved : goal.loop-i-preserved
-loop-i-preserved c =
-    let e = ap (λ (a : Name). atomic_words (atomic_at c.args.m a)) c.name_in.ensures in
-    (omega arith, omega (arith, c.write_cell-q.ensures.value), search rules, turn _ c.loop-i.i c.loop-i.invariant.3 c.write_cell-q.ensures.wrote e)
+loop-i-preserved g c = (
+  omega (arith, c.write_cell-q.ensures.value),
+  search rules,
+  λ h k.
+      turn _ c.loop-i.i (c.loop-i.invariant.2 h k) c.write_cell-q.ensures.wrote
+      (ap (λ (a : Name). atomic_words (atomic_at c.args.m a)) (k _ _ c.name.ensures)),
+)
 
 pub returns : goal.returns
-returns c =
+returns g c =
     let e : c.loop-i.i ≡ c.args.n = omega arith in
-    record { wrote = rw e at c.loop-i.invariant.3; value = omega arith }
+    record { wrote = λ h k. rw e at (c.loop-i.invariant.2 h k); value = omega arith }

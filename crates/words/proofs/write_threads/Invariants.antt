@@ -1,12 +1,10 @@
 use mathlib.Core.Path.{◌≡◌}
-use Prim.Native.Nat.{◌+◌, ◌*◌, ◌-◌, ◌≤◌}
+use Prim.Native.Nat.{◌+◌, ◌*◌}
 use lib.ListN.{length}
 use Rattle.image.specs.Image.{in_turn, thread_words}
 use Rattle.number.specs.Buffer.{Wrote}
 use Rattle.words.proofs.write_threads.Given as goal
 
 abbrev pub invariant-loop-i : goal.invariant-loop-i
-invariant-loop-i l = (l.i ≤ 8) × (l.q ≡ l.p + 35 * l.i) × (length l.buf ≡ length l.initial.buf) × Wrote l.initial.buf l.p (in_turn (thread_words l.m) l.i) l.q l.buf
-
-abbrev pub decreases-loop-i : goal.decreases-loop-i
-decreases-loop-i l = 8 - l.i
+invariant-loop-i l =
+    (l.q ≡ l.p + 35 * l.i) × (length l.buf ≡ length l.initial.buf) × Wrote l.initial.buf l.p (in_turn (thread_words l.m) l.i) l.q l.buf

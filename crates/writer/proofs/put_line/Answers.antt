@@ -1,11 +1,11 @@
 use mathlib.Core.Path.{◌≡◌, sym, ap, ◌∙◌}
 use lib.ListN.{length}
+use Rattle.std.specs.Prelude.{Ok}
 use Rattle.form.specs.Line.{line_in_range}
 use Rattle.form.specs.Text.{fields_text, line_text}
 use Rattle.number.proofs.Stores.{room_yes}
 use Rattle.number.specs.Buffer.{room, placed}
 use Rattle.writer.specs.Writer.{line_written, line_placed}
-use Rattle.writer.specs.declared.LineWritten.TheVariants.{Upto}
 use Rattle.writer.proofs.put_line.Goals as goal
 use Rattle.writer.proofs.put_line.Goals.{After-fields_in_range, After-fields_of-f, After-has_room}
 
@@ -51,4 +51,4 @@ returns c =
     let w = rw t at c.write_fields.ensures in
     let e = sym (ranged at.After-fields_in_range) ∙ c.if-not-fields_in_range.false in
     let y = sym (roomy at.After-has_room t) ∙ c.if-not-has_room.false in
-    (simp (e, y) (ap Upto w.next), simp (e, y) w.list)
+    (simp (e, y) (ap Ok w.next), simp (e, y) w.list)

@@ -4,6 +4,7 @@ use lib.ListN.{length}
 use Rattle.form.specs.Text.{operand_text, word_text, form_text}
 use Rattle.number.proofs.Stores.{wrote_then}
 use Rattle.measure.proofs.Widths.{length_form}
+use Rattle.writer.proofs.Laws.{wrote_of}
 use Rattle.writer.proofs.write_form.Goals as goal
 use Rattle.writer.proofs.write_form.Goals.{After-form_at-row}
 
@@ -25,13 +26,14 @@ pub write_operand-s-requires : goal.write_operand-s-requires
 write_operand-s-requires c =
     omega (arith, roomy (goal.at.write_operand-s-requires c).After-form_at-row, c.write_word-p, c.write_operand-q, c.write_operand-r)
 
-pub write_byte-requires : goal.write_byte-requires
-write_byte-requires c =
-    omega (arith, roomy (goal.at.write_byte-requires c).After-form_at-row, c.write_word-p, c.write_operand-q, c.write_operand-r, c.write_operand-s)
-
 pub returns : goal.returns
 unfolding form_text
 returns c =
+    let room = roomy (goal.at.returns c).After-form_at-row in
+    let last =
+    wrote_of (omega (arith, room, c.write_word-p, c.write_operand-q, c.write_operand-r, c.write_operand-s))
+    c.put_byte.ensures c.unwrap_or.ensures in
     wrote_then (rw c.form_at-row.ensures at c.write_word-p.ensures)
     (wrote_then (rw c.form_at-row.ensures at c.write_operand-q.ensures)
-    (wrote_then (rw c.form_at-row.ensures at c.write_operand-r.ensures) (wrote_then (rw c.form_at-row.ensures at c.write_operand-s.ensures) c.write_byte.ensures)))
+    (wrote_then (rw c.form_at-row.ensures at c.write_operand-r.ensures)
+    (wrote_then (rw c.form_at-row.ensures at c.write_operand-s.ensures) last)))

@@ -6,7 +6,7 @@ unfolding looked_at
 returns c =
     rw (
       c.newer_of-newest.ensures,
-      c.earlier_of-found.ensures,
+      c.or-found.ensures,
       c.shown_by.ensures,
       c.stand_still-stand.ensures,
     )

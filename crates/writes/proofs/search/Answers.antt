@@ -1,17 +1,18 @@
-use mathlib.Core.Path.{refl}
-use Prim.Native.Nat.{◌<◌}
+use mathlib.Core.Path.{refl, ap, ◌∙◌}
 use native.Mathlib.Numerals.{add-one}
-use native.Mathlib.Omega.{arith}
-use lib.ListN.{length}
+use Rattle.std.proofs.lemmas.List.{take_all, take_min}
 use Rattle.writes.specs.Searched.{searched}
 use Rattle.writes.proofs.Searched.{searched_more}
 use Rattle.writes.proofs.search.Goals as goal
 
-pub loop-i-init : goal.loop-i-init
+pub loop-w-init : goal.loop-w-init
 unfolding searched
-loop-i-init c = (omega arith, refl)
+loop-w-init c = refl
 
-pub loop-i-preserved : goal.loop-i-preserved
-loop-i-preserved c =
-    let l : c.loop-i.i < length c.args.ws.now = omega arith in
-    (omega arith, rw add-one (cc (searched_more c.args.from c.args.ws.now c.loop-i.i l)))
+pub loop-w-preserved : goal.loop-w-preserved
+loop-w-preserved c = rw add-one (cc (searched_more c.args.from _ _ c.loop-w-test.true))
+
+pub returns : goal.returns
+returns c =
+    c.loop-w.invariant
+    ∙ ap (searched c.args.from) (take_all _ _ c.loop-w-test.false ∙ rw c.min.ensures (take_min c.args.n c.args.ws.now))

@@ -3,4 +3,4 @@ use Rattle.writes.proofs.shown_by.Goals as goal
 
 pub returns : goal.returns
 unfolding shown_by
-returns c = rw (c.present_if.ensures, c.both.ensures)
+returns c = rw (c.then_some.ensures, c.both.ensures)

@@ -3,4 +3,4 @@ use Rattle.writes.proofs.sought.Goals as goal
 
 pub returns : goal.returns
 unfolding sought_of
-returns c = rw c.present_if-found.ensures
+returns c = rw c.then_some-found.ensures

@@ -1,11 +1,9 @@
+use borrow.Author.Rules.{rules}
 use Rattle.rules.specs.Calls.{acted}
 use Rattle.decision.proofs.calls.act.Goals as goal
 
 pub resume-requires : goal.resume-requires
 resume-requires c = record { p_bound = rw c.place_of.ensures c.requires.i_bound; slots_bound = c.requires.slots_bound }
-
-pub resume-requires-in-GoAt : goal.resume-requires-in-GoAt
-resume-requires-in-GoAt c = record { p_bound = rw c.place_of-in-GoAt.ensures c.requires.i_bound; slots_bound = c.requires.slots_bound }
 
 pub returns-in-Get : goal.returns-in-Get
 unfolding acted
@@ -37,8 +35,4 @@ returns-in-Take c = rw (c.in-Take.is, c.end-in-Take.ensures, c.read_atomic-in-Ta
 
 pub returns-in-Go : goal.returns-in-Go
 unfolding acted
-returns-in-Go c = rw (c.in-Go.is, c.resume.ensures, c.place_of.ensures)
-
-pub returns-in-GoAt : goal.returns-in-GoAt
-unfolding acted
-returns-in-GoAt c = rw (c.in-GoAt.is, c.resume-in-GoAt.ensures, c.place_of-in-GoAt.ensures)
+returns-in-Go c = search rules

@@ -1,0 +1,3 @@
+pub mod Numbered
+pub mod Answered
+pub mod Determined
