@@ -127,12 +127,11 @@ function plain(text) {
     return text
 }
 
-# One function is lent a closure. It asks that it may be called, and says no more of what it gives than the closure's contract fixes.
+# A function that is lent a closure has to ask that it may be called.
 function row(  said, by) {
-    closure = gsub(/: Fn\([^()]*\) -> /, ": Fn ", signature) && name == "laws::filled"
+    closure = gsub(/: Fn\([^()]*\) -> /, ": Fn ", signature)
     said = equations()
-    by = due()
-    by = closure ? "what the closure's contract fixes" : lemma(by)
+    by = lemma(due())
     printf "| `%s` | %s | %s |\n", name, said == "" ? "NONE" : "`" said "`", by
 }
 
@@ -232,6 +231,16 @@ function conclusion(said,  given, over) {
         gsub(/ : _\)/, "", over)
         gsub(/\(/, "", over)
         return said == given alias ".Post " over ")" ? "x ≡ y" : ""
+    }
+    # two results of one that is lent a closure are equal wherever the closure's own contract allows one value for each number
+    if (closure && match(said, /^(\([a-z ]+ : _\) )+\(κs : _\) \(a : _\) \(x y : _\) \(e k : _\) → /)) {
+        given = substr(said, 1, RLENGTH)
+        over = given
+        sub(/ \(κs : _\).*/, "", over)
+        gsub(/ : _\)/, "", over)
+        gsub(/\(/, "", over)
+        given = given alias ".Post " over " κs a x e → " alias ".Post " over " κs a y k → "
+        return said == given "(g : ℕ → _) → ((i : ℕ) (r : _) → i < a.1.0 → f.post a.0 (i, tt) r → r ≡ g i) → x ≡ y" ? "x ≡ y" : ""
     }
     given = "(κs : _) (a : _) (x y : _) (e f : _) → " alias ".Post κs a x e → " alias ".Post κs a y f → "
     return begins(said, given) ? substr(said, length(given) + 1) : ""

@@ -10,6 +10,7 @@ use form::{Due, Line};
 use schedule::{Section, Sections};
 use state::Machine;
 
+// The weight of a weight line. Total, as its definition: a weight line that is due is one.
 fn weight_in(line: Line) -> u32
     ensures { result ≡ weight_in line }
 {

@@ -75,7 +75,8 @@ fn refused_call(state: &[u32], asked: &[u32], room: usize) -> Option<CallRefusal
     None
 }
 
-// What a call asks, and why it is refused before its step, if it is.
+// What a call asks, and why it is refused before its step, if it is. No Result: a refused call runs a step too, so that each call is three
+// lines, one after the other.
 #[derive(Clone, Copy)]
 struct Call {
     refused: Option<CallRefusal>,

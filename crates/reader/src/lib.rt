@@ -43,7 +43,8 @@ impl<'a> Reader<'a> {
     }
 }
 
-// The line that is due at a place of a text, for callers that keep both themselves.
+// The line that is due at a place of a text, for callers that keep both themselves; `read_line` (line) by another name,
+// by which the edit `first_line` bites.
 pub fn line_of(text: &[u8], at: usize, due: Due) -> Result<Read<Line>, Refusal>
     ensures { result ≡ read_line due text.now at }
 {

@@ -43,10 +43,7 @@ fn text_line(r: Refusal) -> Printed
 fn ranks_between(tail: u32, head: u32) -> u32
     ensures { (result ≡ head - tail) × (tail + result ≤ 2 ^ 32) }
 {
-    if tail < head {
-        return head - tail;
-    }
-    0
+    head.saturating_sub(tail)
 }
 
 // What the queue holds, a line for each rank from one on.

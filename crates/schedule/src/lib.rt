@@ -36,7 +36,7 @@ const HEADERS: [Header; 6] = [
     Header::Steps,
 ];
 
-// The count that a header line gives.
+// The count that a header line gives. Total, as its definition: a header line that is due is one, and no call gives it another.
 fn count_in(line: Line) -> u32
     ensures { result ≡ count_in line }
 {

@@ -1,4 +1,4 @@
-// The machine's state by value, and the accessors of its places: total in every index; but for `image` and `words` none else has one.
+// The machine's state by value, and the accessors of its places: total in every index; none else has one.
 #![tactic(auto)]
 
 ghost use Rattle.std.specs.Prelude.{◌≡◌, ◌-◌, get_or};
@@ -194,8 +194,5 @@ pub fn first_of(m: Machine, i: usize) -> u32
 pub fn index(n: u32) -> usize
     ensures { result ≡ n - 1 }
 {
-    if n == 0 {
-        return 0;
-    }
-    (n - 1) as usize
+    n.saturating_sub(1) as usize
 }

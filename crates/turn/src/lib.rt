@@ -39,6 +39,7 @@ pub struct Ended {
     pub writes: [Write; 1024],
 }
 
+// The step of a step line. Total, as its definition: a step line that is due is one.
 fn step_in(line: Line) -> Step
     ensures { result ≡ step_in line }
 {

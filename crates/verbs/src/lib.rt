@@ -10,10 +10,7 @@ use step::{LineKind, Verb};
 pub fn is_among(n: u32, high: u32) -> bool
     ensures { result ≡ among n high }
 {
-    if n == 0 {
-        return false;
-    }
-    n <= high
+    0 < n && n <= high
 }
 
 // Which kind of line a verb is.
