@@ -6,7 +6,6 @@ use Rattle.cases.specs.Question.{Question, weight_line, whole_text, run, report,
 use Rattle.number.specs.Bytes.{bytes}
 use Rattle.step.specs.declared.Answer.{Answer}
 use Rattle.step.specs.declared.Answer.TheVariants.{Dash, Ok, Value, Yes, No, Got, Refused}
-use Rattle.step.specs.declared.Reason.TheVariants.{Outdated, Amiss}
 use Rattle.step.specs.declared.Step.{Step}
 use Rattle.step.specs.declared.Verb.{Verb}
 use Rattle.step.specs.declared.Verb.TheVariants.{Get, Set, Put, Take, Go, GoAt}
@@ -70,11 +69,11 @@ cell_one =
       steps =
           by 1 (Set 1 5 2000) Ok
           ∷ by 2 (Set 1 6 1000) Ok
-          ∷ by 1 (Get 1 1000) (Refused Outdated)
+          ∷ by 1 (Get 1 1000) (Refused 12)
           ∷ by 2 (Get 1 2000) (Value 5)
           ∷ by 2 (Get 1 1000) (Value 6)
-          ∷ by 2 (Set 1 7 2000) (Refused Amiss)
-          ∷ by 2 (Set 1 7 1000) (Refused Outdated)
+          ∷ by 2 (Set 1 7 2000) (Refused 13)
+          ∷ by 2 (Set 1 7 1000) (Refused 12)
           ∷ [];
       tail = 0;
       head = 0;
@@ -147,7 +146,7 @@ listing =
           by 1 (Set 1 70000 1000) Ok
           ∷ put_by 1 12500
           (by 2 Take Dash ∷ by 2 Go Dash ∷ by 2 Go Dash ∷ by 2 (GoAt 1000) Dash ∷ by 2 Go (Got 12500)
-          ∷ by 2 (Get 1 1000) (Value 70000) ∷ by 2 (Get 1 0) (Refused Outdated)
+          ∷ by 2 (Get 1 1000) (Value 70000) ∷ by 2 (Get 1 0) (Refused 12)
           ∷ []);
       tail = 1;
       head = 1;

@@ -63,8 +63,9 @@ fn decide(m: Machine, stand: bool, lent: usize, step: Step, a: Access, f: Option
     ensures { result ≡ decided_by (refusal_by stand m lent step a f) m step a f }
 {
     if let Some(reason) = refusal::refusal_by(m, stand, lent, step, a, f) {
+        let number = reason.number();
         let done = Done {
-            answer: Answer::Refused { reason },
+            answer: Answer::Refused { number },
             machine: m,
         };
         return Decided {
@@ -117,9 +118,8 @@ fn content_if(stand: bool, published: bool, weight: u32) -> Answer
     ensures { result ≡ content_if stand published weight }
 {
     if !stand {
-        return Answer::Refused {
-            reason: Reason::CannotStand,
-        };
+        let number = Reason::CannotStand.number();
+        return Answer::Refused { number };
     }
     if published {
         return Answer::Value { value: weight };

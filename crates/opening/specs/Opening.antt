@@ -12,6 +12,7 @@ use Rattle.state.specs.declared.Place.TheVariants.{Idle}
 use Rattle.state.specs.declared.Shape.{Shape}
 use Rattle.step.specs.Limit.{most}
 use Rattle.step.specs.declared.Answer.TheVariants.{Ok, Refused}
+use Rattle.step.specs.Reason.{number}
 use Rattle.step.specs.declared.Reason.{Reason}
 use Rattle.step.specs.declared.Reason.TheVariants.{OutOfRange, TooGreat}
 use Rattle.view.specs.View.{zero_view}
@@ -58,7 +59,7 @@ fresh t c plain flags = unmoved (shape t c (length plain) (length flags)) (given
 -- A refused opening gives no machine: all is zero, and that does not stand.
 unfoldable pub refused_opening : Reason → Opened
 refused_opening r =
-    record { answer = Refused r; machine = unmoved (shape 0 0 0 0) (replicate 16 0) (replicate 8 zero_atomic) (replicate 16 zero_atomic) }
+    record { answer = Refused (number r); machine = unmoved (shape 0 0 0 0) (replicate 16 0) (replicate 8 zero_atomic) (replicate 16 zero_atomic) }
 
 abbrev pub opened_if : Bool → Bool → Machine → Opened
 opened_if false b m = refused_opening OutOfRange

@@ -71,8 +71,9 @@ fn refused(reason: Reason) -> Opened
         flags: 0,
     };
     let machine = machine_of(shape, [0u32; 16], [none; 8], [none; 16]);
+    let number = reason.number();
     Opened {
-        answer: Answer::Refused { reason },
+        answer: Answer::Refused { number },
         machine,
     }
 }

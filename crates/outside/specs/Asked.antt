@@ -3,7 +3,6 @@ use Rattle.std.specs.Prelude.{Bool, List, [], ◌∷◌, ℕ, leb, eqb, length, 
 use Rattle.form.specs.Line.{fields_of, verb_of}
 use Rattle.form.specs.declared.Line.TheVariants.{StepLine}
 use Rattle.laws.specs.Tests.{◌and◌}
-use Rattle.step.specs.Reason.{number}
 use Rattle.step.specs.declared.Answer.{Answer}
 use Rattle.step.specs.declared.Answer.TheVariants.{Dash, Ok, Value, Yes, No, None, Got, Refused}
 use Rattle.step.specs.declared.Step.{Step}
@@ -33,4 +32,4 @@ answer_words Yes = 3 ∷ 0 ∷ []
 answer_words No = 4 ∷ 0 ∷ []
 answer_words None = 5 ∷ 0 ∷ []
 answer_words (Got w) = 6 ∷ w ∷ []
-answer_words (Refused r) = 7 ∷ number r ∷ []
+answer_words (Refused n) = 7 ∷ n ∷ []

@@ -116,7 +116,7 @@ fn answer_words(a: Answer) -> [u32; 2]
         Answer::No => [4, 0],
         Answer::None => [5, 0],
         Answer::Got { weight } => [6, weight],
-        Answer::Refused { reason } => [7, reason.number()],
+        Answer::Refused { number } => [7, number],
     }
 }
 
@@ -128,8 +128,8 @@ fn put_done(state: &mut [u32], answer: &mut [u32], refused: Option<CallRefusal>,
         return why.number();
     }
     let said = done.answer;
-    if let Answer::Refused { reason } = said {
-        return reason.number();
+    if let Some(number) = said.refused() {
+        return number;
     }
     let next = done.machine;
     let image = words::words_of(next);

@@ -3,7 +3,6 @@ use Rattle.std.specs.Prelude.{ℕ, List, [], ◌∷◌, ◌++◌, Option, Some, 
 use Rattle.number.specs.Buffer.{put_at, placed}
 use Rattle.number.specs.Bytes.{bytes}
 use Rattle.number.specs.Text.{number_text, weight_text}
-use Rattle.step.specs.Reason.{number}
 use Rattle.step.specs.declared.Answer.{Answer}
 use Rattle.step.specs.declared.Answer.TheVariants as answer
 use Rattle.printed.specs.declared.Word.{Word}
@@ -49,7 +48,7 @@ answer_line n answer.Yes = Two (Counts n) (Says word.Yes)
 answer_line n answer.No = Two (Counts n) (Says word.No)
 answer_line n answer.None = Two (Counts n) (Says word.None)
 answer_line n (answer.Got w) = Three (Counts n) (Says word.Got) (Weighs w)
-answer_line n (answer.Refused r) = Two (Counts n) (Counts (number r))
+answer_line n (answer.Refused k) = Two (Counts n) (Counts k)
 
 -- the text of lines: one after the other
 unfoldable pub lines_text : List Printed → List ℕ

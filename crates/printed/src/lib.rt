@@ -146,6 +146,6 @@ pub fn answer_line(n: u32, a: Answer) -> Printed
         Answer::Got { weight } => {
             Printed::Three(first, Field::Says(Word::Got), Field::Weighs(weight))
         }
-        Answer::Refused { reason } => Printed::Two(first, Field::Counts(reason.number() as u64)),
+        Answer::Refused { number } => Printed::Two(first, Field::Counts(number as u64)),
     }
 }

@@ -16,7 +16,7 @@ use Rattle.run.proofs.Prefix.{ran_through}
 use Rattle.run.specs.Prefix.{told_in, AllTaken, refused_next}
 use Rattle.run.specs.Run.{Run}
 use Rattle.state.specs.declared.Machine.{Machine}
-use Rattle.step.specs.Reason.{number_by}
+use Rattle.step.specs.Refused.{number_in}
 use Rattle.step.specs.declared.Step.{Step}
 use Rattle.view.specs.declared.View.{View}
 use Rattle.writes.specs.Records.{no_write}
@@ -45,7 +45,7 @@ inside b c p Q =
 
 -- a run that has come to such a point
 shows : (b c : ℕ) (p : Point) (left : List Step) (r : Run) → Queue b c p → r.machine ≡ p.machine → r.writes ≡ p.writes → told_in p.log ≡ r.answers
-    → AllTaken r.answers → r.refused ≡ refused_next p left → (0 < length left → 0 < number_by r.refused) → Shows c p left (run_lines r)
+    → AllTaken r.answers → r.refused ≡ refused_next p left → (0 < length left → 0 < number_in r.refused) → Shows c p left (run_lines r)
 unfolding run_lines
 shows b c p left r Q m ws told taken refused stops =
     record {

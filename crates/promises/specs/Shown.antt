@@ -10,7 +10,7 @@ use Rattle.rules.specs.Log.{Point, Seen, start, through, seen, outs}
 use Rattle.rules.specs.Queue.{Line, plain, showing}
 use Rattle.run.specs.Ends.{told_line}
 use Rattle.run.specs.Prefix.{told_in, AllTaken, refused_next}
-use Rattle.step.specs.Reason.{number_by}
+use Rattle.step.specs.Refused.{number_in}
 use Rattle.step.specs.declared.Answer.TheVariants.{Ok}
 use Rattle.step.specs.declared.Step.{Step}
 use Rattle.texts.specs.Schedule.{Schedule, schedule, reads}
@@ -34,7 +34,7 @@ inside_lines n inside = heading Queue (length inside) ∷ weight_lines n.publish
 pub record Shows (c : ℕ) (p : Point) (left : List Step) (lines : Lines) : Type 0 where
   -- the steps so far are taken, and the next is refused, if there is one
   pub taken : AllTaken (told_in p.log)
-  pub stops : 0 < length left → 0 < number_by (refused_next p left)
+  pub stops : 0 < length left → 0 < number_in (refused_next p left)
   -- the plain list after the won swaps
   pub line : Line
   pub plain_list : plain c (seen p.log).ops ≡ some line

@@ -21,7 +21,7 @@ use Rattle.state.specs.State.{cells_of, row, place, atomic_at, first_of}
 use Rattle.state.specs.declared.Machine.{Machine}
 use Rattle.state.specs.declared.Name.{Name}
 use Rattle.step.proofs.Numbered.{above_zero}
-use Rattle.step.specs.Reason.{number_by}
+use Rattle.step.specs.Reason.{number, number_by}
 use Rattle.step.specs.declared.Answer.TheVariants.{Refused}
 use Rattle.step.specs.declared.Reason.{Reason}
 use Rattle.step.specs.declared.Step.{Step}
@@ -30,7 +30,7 @@ use Rattle.view.specs.declared.View.{View}
 use Rattle.writes.specs.declared.Write.{Write}
 
 -- a step for which there is a reason is answered with it
-refusing : (m : Machine) (ws : List Write) (s : Step) (r : Reason) → refusal_of m ws s ≡ Some r → (step_of m ws s).done.answer ≡ Refused r
+refusing : (m : Machine) (ws : List Write) (s : Step) (r : Reason) → refusal_of m ws s ≡ Some r → (step_of m ws s).done.answer ≡ Refused (number r)
 unfolding step_of decided_of
 refusing m ws s r e = rw e
 

@@ -43,12 +43,13 @@ impl<'a> Reader<'a> {
     }
 }
 
-// The line that is due at a place of a text, for callers that keep both themselves; `read_line` (line) by another name,
-// by which the edit `first_line` bites.
+// The line that is due at a place of a text, for callers that keep both themselves.
 pub fn line_of(text: &[u8], at: usize, due: Due) -> Result<Read<Line>, Refusal>
     ensures { result ≡ read_line due text.now at }
 {
-    line::read_line(text, at, due)
+    let mut r = Reader { text, at };
+    let value = r.next_line(due)?;
+    Ok(Read { value, next: r.at })
 }
 
 // The part of a text at fault, likewise.

@@ -8,7 +8,7 @@ use mathlib.Core.Path.{◌∙◌, ◌≡◌, ap, refl, sym}
 use native.Mathlib.Omega.{arith}
 use Rattle.std.specs.Prelude.{Option, Some, None}
 use Rattle.rules.proofs.Fresh.{refused_falls}
-use Rattle.rules.proofs.Refused.{taken_counts}
+use Rattle.rules.proofs.Refused.{step_numbered, taken_counts}
 use Rattle.rules.proofs.Standing.{standing}
 use Rattle.rules.specs.Kept.{number_given}
 use Rattle.laws.specs.Tests.{◌and◌}
@@ -27,26 +27,35 @@ use Rattle.run.specs.Run.{Run, Told, goes_on_after, ran, stops}
 use Rattle.standing.proofs.Bounds.{bounds}
 use Rattle.standing.specs.Stands.{in_shape, stands}
 use Rattle.state.specs.declared.Machine.{Machine}
-use Rattle.step.proofs.Answered.{by_reason}
+use Rattle.step.proofs.Answered.{by_refusal}
 use Rattle.step.specs.Answer.{number_of}
-use Rattle.step.specs.Reason.{number_by}
-use Rattle.step.specs.Refused.{reason_of}
+use Rattle.step.specs.Refused.{refused_in, number_in}
 use Rattle.step.specs.declared.Answer.TheVariants.{Ok}
-use Rattle.step.specs.declared.Reason.{Reason}
 use Rattle.step.specs.declared.Step.{Step}
 use Rattle.writes.specs.declared.Write.{Write}
 
 -- what holds where the run stops, and where it goes on, holds
-goes_on : (Q : Run → Type 0) (o : Option Reason) (x y : Run) → Q x → (o ≡ None → Q y) → Q (goes_on_after o x y)
+goes_on : (Q : Run → Type 0) (o : Option ℕ) (x y : Run) → Q x → (o ≡ None → Q y) → Q (goes_on_after o x y)
 goes_on Q None x y p q = q refl
-goes_on Q (Some r) x y p q = p
+goes_on Q (Some n) x y p q = p
 
-abbrev given : Machine → List Write → Step → Option Reason
-given m ws s = reason_of (step_of m ws s).done.answer
+abbrev given : Machine → List Write → Step → Option ℕ
+given m ws s = refused_in (step_of m ws s).done.answer
 
--- a step for which no reason is given has no number
+-- a step that is not refused has no number
 taken_zero : (m : Machine) (ws : List Write) (s : Step) → given m ws s ≡ None → number_given m ws s ≡ 0
-taken_zero m ws s e = by_reason _ ∙ ap number_by e
+taken_zero m ws s e = by_refusal (step_of m ws s).done.answer ∙ ap number_in e
+
+-- a run's last step is refused by 14 at most
+at_most_14 : (m : Machine) (ws : List Write) (s : Step) → number_in (given m ws s) ≤ 14
+at_most_14 m ws s = ⊎_elim (λ e. omega (arith, e, by_refusal (step_of m ws s).done.answer)) (λ e. omega (arith, e.1, by_refusal (step_of m ws s).done.answer)) (step_numbered m ws s)
+
+pub refused_small : (m : Machine) (ws : List Write) (ss : List Step) → number_in (ran m ws ss).refused ≤ 14
+unfolding ran
+refused_small m ws [] = omega arith
+refused_small m ws (s ∷ ss) =
+    goes_on (λ r. number_in r.refused ≤ 14) (given m ws s) (stops m ws (given m ws s)) _ (at_most_14 m ws s)
+    (λ e. refused_small (step_of m ws s).done.machine (step_of m ws s).writes ss)
 
 -- at most n answers, and their lines
 abbrev pub Few : ℕ → List Told → Type 0

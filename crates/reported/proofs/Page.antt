@@ -13,8 +13,6 @@ use Rattle.printed.specs.declared.Printed.TheVariants.{Two}
 use Rattle.printed.specs.declared.Word.TheVariants.{Refused}
 use Rattle.reported.specs.Report.{heading, rank_lines, refused_lines}
 use Rattle.state.specs.declared.Machine.{Machine}
-use Rattle.step.specs.Reason.{number}
-use Rattle.step.specs.declared.Reason.{Reason}
 use Rattle.writes.specs.declared.Write.{Write}
 
 pub put_append : (b : Page) (xs ys : List Printed) → put_lines b (xs ++ ys) ≡ put_lines (put_lines b xs) ys
@@ -44,13 +42,13 @@ rank_more m ws zero k h = absurd (omega arith)
 rank_more m ws (suc n) k h = rw (add-one k, sub-one)
 
 -- a run that a step ended
-pub refused_two : (l : List ℕ) (u : Option ℕ) (taken : ℕ) (r : Reason) {m k : List ℕ} {w v : Option ℕ}
+pub refused_two : (l : List ℕ) (u : Option ℕ) (taken n : ℕ) {m k : List ℕ} {w v : Option ℕ}
     → (w ≡ put_next l u (heading Refused 1)) × (m ≡ placed_next l u (heading Refused 1))
-    → (v ≡ put_next m w (Two (Counts (taken + 1)) (Counts (number r)))) × (k ≡ placed_next m w (Two (Counts (taken + 1)) (Counts (number r))))
-    → page v k ≡ put_lines (page u l) (refused_lines taken (Some r))
+    → (v ≡ put_next m w (Two (Counts (taken + 1)) (Counts n))) × (k ≡ placed_next m w (Two (Counts (taken + 1)) (Counts n)))
+    → page v k ≡ put_lines (page u l) (refused_lines taken (Some n))
 unfolding refused_lines
-refused_two l u taken r {m} {k} {w} {v} p q =
-    put_one m w (Two (Counts (taken + 1)) (Counts (number r))) q ∙ put_more l u (heading Refused 1) _ p
+refused_two l u taken n {m} {k} {w} {v} p q =
+    put_one m w (Two (Counts (taken + 1)) (Counts n)) q ∙ put_more l u (heading Refused 1) _ p
 
 -- so many ranks, from one on
 pub ranks_at : (b : Page) (m : Machine) (ws : List Write) {n k i j : ℕ} → n ≡ i → k ≡ j

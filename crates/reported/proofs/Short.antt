@@ -21,10 +21,8 @@ use Rattle.printed.specs.declared.Field.TheVariants.{Counts, Says}
 use Rattle.printed.specs.declared.Printed.TheVariants.{Two}
 use Rattle.printed.specs.declared.Word.TheVariants as word
 use Rattle.reported.proofs.Answers.{content_in}
-use Rattle.step.proofs.Answered.{up_to_14}
-use Rattle.step.specs.Reason.{number}
-use Rattle.step.specs.declared.Reason.{Reason}
-use Rattle.reported.proofs.Comes.{Few, Listed, few, listed}
+use Rattle.step.specs.Refused.{number_in}
+use Rattle.reported.proofs.Comes.{Few, Listed, few, listed, refused_small}
 use Rattle.fresh.proofs.Lines.{front}
 use Rattle.reported.specs.Promise.{ReportShort, ReportWhole, rest_text}
 use Rattle.reported.specs.Report.{Lines, heading, queue_lines, rank_lines, refused_lines, report_on, report_text, reported, run_lines, run_of, text_line}
@@ -62,29 +60,29 @@ queue_short m ws h =
       ranks_short m ws count m.tail.value (λ l. (omega (arith, h.1), h.2 (omega arith))),
     )
 
-refused_short : (taken : ℕ) (o : Option Reason) → taken ≤ 4096 → length (lines_text (refused_lines taken o)) ≤ 40
+refused_short : (taken : ℕ) (o : Option ℕ) → taken ≤ 4096 → number_in o ≤ 14 → length (lines_text (refused_lines taken o)) ≤ 40
 unfolding refused_lines lines_text field_text
-refused_short taken None h =
+refused_short taken None h g =
     omega (arith, length-append (printed_text (heading word.Refused 0)) [], heading_short word.Refused 0 1 (length_pow 0 0 (omega arith)))
-refused_short taken (Some r) h =
-    let last = Two (Counts (taken + 1)) (Counts (number r)) in
+refused_short taken (Some n) h g =
+    let last = Two (Counts (taken + 1)) (Counts n) in
     omega (
       arith,
       length-append (printed_text (heading word.Refused 1)) (printed_text last ++ []),
       length-append (printed_text last) [],
       heading_short word.Refused 1 1 (length_pow 0 1 (omega arith)),
-      two_width (Counts (taken + 1)) (Counts (number r)),
+      two_width (Counts (taken + 1)) (Counts n),
       length_pow 3 (taken + 1) (omega arith),
-      length_pow 1 (number r) (omega (arith, up_to_14 r)),
+      length_pow 1 n (omega arith),
     )
 
 abbrev LinesShort : Lines → Type 0
 LinesShort x = (length (printed_text x.first) ≤ 64) × (length (lines_text x.rest) ≤ 131072)
 
 -- the lines of a run
-run_short : (r : Run) (n : ℕ) → n ≤ 4096 → Few n r.answers → Listed r.machine r.writes → LinesShort (run_lines r)
+run_short : (r : Run) (n : ℕ) → n ≤ 4096 → Few n r.answers → Listed r.machine r.writes → number_in r.refused ≤ 14 → LinesShort (run_lines r)
 unfolding run_lines
-run_short r n l f q =
+run_short r n l f q h =
     let taken = length r.answers in
     let told = map told_line r.answers in
     let queue = queue_lines r.machine r.writes in
@@ -96,7 +94,7 @@ run_short r n l f q =
         lines_append queue last,
         f.1,
         queue_short r.machine r.writes q,
-        refused_short taken r.refused (omega (arith, f.0)),
+        refused_short taken r.refused (omega (arith, f.0)) h,
       ),
     )
 
@@ -123,7 +121,7 @@ opened_short : (x : Schedule) (ws : List Write)
 opened_short x ws =
     let m = (opened_of x.threads x.slots x.plain x.flag).machine in
     run_short (ran m ws x.steps) (4096 - m.steps) (omega arith) (few m ws x.steps)
-    (listed x.threads x.slots x.plain x.flag ws x.steps)
+    (listed x.threads x.slots x.plain x.flag ws x.steps) (refused_small m ws x.steps)
 
 pub report_short : ReportShort
 unfolding reported run_of lines_text

@@ -15,8 +15,6 @@ use Rattle.run.specs.Ends.{told_line}
 use Rattle.run.specs.Run.{Run, ran}
 use Rattle.texts.specs.Schedule.{Schedule, Outcome, schedule, refusal, reads}
 use Rattle.state.specs.declared.Machine.{Machine}
-use Rattle.step.specs.Reason.{number}
-use Rattle.step.specs.declared.Reason.{Reason}
 use Rattle.writes.specs.Records.{no_write}
 use Rattle.writes.specs.declared.Write.{Write}
 
@@ -37,9 +35,9 @@ queue_lines m ws =
     heading Queue count ∷ rank_lines m ws count m.tail.value
 
 -- "`refused`: 0 and no line, or 1 and a line of step number (from 1) and refusal number"
-unfoldable pub refused_lines : ℕ → Option Reason → List Printed
+unfoldable pub refused_lines : ℕ → Option ℕ → List Printed
 refused_lines taken None = heading Refused 0 ∷ []
-refused_lines taken (Some r) = heading Refused 1 ∷ Two (Counts (taken + 1)) (Counts (number r)) ∷ []
+refused_lines taken (Some n) = heading Refused 1 ∷ Two (Counts (taken + 1)) (Counts n) ∷ []
 
 -- a report is its first line and the rest
 pub record Lines : Type 0 where

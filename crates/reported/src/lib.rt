@@ -11,7 +11,6 @@ use fault::Refusal;
 use printed::{Field, Printed, Word};
 use schedule::Sections;
 use state::Machine;
-use step::Reason;
 use writes::Write;
 
 // A report: its first line, and the place after the other lines in the buffer.
@@ -82,20 +81,19 @@ fn put_refused(
     out: &mut [u8],
     upto: Option<usize>,
     taken: u32,
-    refused: Option<Reason>,
+    refused: Option<u32>,
 ) -> Option<usize>
     ensures { page result out.new ≡ put_lines (page upto out.old) (refused_lines taken refused) }
 {
     match refused {
         None => printed::put_next(out, upto, count_line(Word::Refused, 0)),
-        Some(reason) => {
+        Some(number) => {
             let w = printed::put_next(out, upto, count_line(Word::Refused, 1));
             let step = (taken as u64) + 1;
-            let number = reason.number() as u64;
             printed::put_next(
                 out,
                 w,
-                Printed::Two(Field::Counts(step), Field::Counts(number)),
+                Printed::Two(Field::Counts(step), Field::Counts(number as u64)),
             )
         }
     }

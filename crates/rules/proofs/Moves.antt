@@ -36,6 +36,7 @@ use Rattle.state.specs.declared.Place.TheVariants.{Idle, PutStatus, PutSwap, Put
 use Rattle.step.specs.declared.Answer.{Answer}
 use Rattle.step.specs.declared.Answer.TheVariants.{Dash, Ok, Value, Yes, No, None, Got, Refused}
 use Rattle.step.specs.declared.LineKind.TheVariants.{Begins}
+use Rattle.step.specs.Reason.{number}
 use Rattle.step.specs.declared.Reason.{Reason}
 use Rattle.step.specs.declared.Step.{Step}
 use Rattle.step.specs.declared.Verb.{Verb}
@@ -169,7 +170,7 @@ module _ (m : Machine) (ws : List Write) (i : ℕ) (P : Verb → Answer → Mach
 
 -- what a step leaves: nothing new if it is refused, else what its move says
 pub by_moves : (m : Machine) (ws : List Write) (s : Step) (P : Verb → Answer → Machine → List Write → Type 0) → Whole m
-    → ((r : Reason) → P s.verb (Refused r) m ws)
+    → ((r : Reason) → P s.verb (Refused (number r)) m ws)
     → (s.thread - 1 < m.shape.threads → Moves m ws (s.thread - 1) P)
     → P s.verb (step_of m ws s).done.answer (step_of m ws s).done.machine (step_of m ws s).writes
 unfolding step_of decided_of taken_by recorded refusal_of

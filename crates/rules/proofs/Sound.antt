@@ -84,7 +84,7 @@ module _ (p : Point) (S : Sound p) (s : Step) where
   listed =
       by_moves m ws s
       (λ v a k us. Owed m.shape.slots (cells_of m) n (row k i) (n.calls i) v a × ListedAt m.shape.slots k (after v a (row k i)))
-      S.whole (λ r. ((refused, λ e. absurd (omega (arith, above_zero r))), S.list))
+      S.whole (λ r. ((refused r (above_zero r), λ e. absurd (omega (arith, above_zero r))), S.list))
       (λ _. list_moves m ws n i S.whole B S.ring S.memory S.list)
 
   pub kept : Sound (next p s)

@@ -125,7 +125,7 @@ over i n = record { calls = with n.calls i no_call; ops = n.ops; published = n.p
 
 -- a line of thread i, of call c, by its answer: a refusal is ignored, and any but "-" ends the call
 abbrev pub heard : ℕ → View → Call → Answer → Seen → Seen
-heard i v c (Refused r) n = n
+heard i v c (Refused k) n = n
 heard i v c Dash n = record { calls = with n.calls i (onward n.ops c); ops = with_swap c n.ops; published = n.published }
 heard i v c Yes n = record { calls = with n.calls i no_call; ops = n.ops; published = told_by c v n.published }
 heard i v c Ok n = over i n

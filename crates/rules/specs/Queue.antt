@@ -13,6 +13,7 @@ use Rattle.step.specs.declared.Answer.{Answer}
 use Rattle.step.specs.declared.Answer.TheVariants.{Dash, Ok, Value, Yes, No, None, Got, Refused}
 use Rattle.step.specs.declared.LineKind.{LineKind}
 use Rattle.step.specs.declared.LineKind.TheVariants.{Begins, Goes, GoesAt}
+use Rattle.step.specs.Reason.{number}
 use Rattle.step.specs.declared.Reason.{Reason}
 use Rattle.step.specs.declared.Step.{Step}
 use Rattle.step.specs.declared.Verb.TheVariants.{GoAt}
@@ -61,7 +62,7 @@ pub record Gets (c m : ℕ) (n : Seen) (v : View) (k r w : ℕ) : Type 0 where
 -- 1. "the won calls' answers are those of" that list, "a call answered no or none leaves that list as it was": what a call that
 -- has had k steps may be answered, and nothing else; one that has had three has won. Outside a call, an access.
 pub data Says (c m : ℕ) (n : Seen) (v : View) : Call → Answer → Type 0 where
-  refused : {q : Call} {r : Reason} → Says c m n v q (Refused r)
+  refused : {q : Call} (r : Reason) → 0 < number r → Says c m n v q (Refused (number r))
   access_ok : Says c m n v no_call Ok
   access_value : {x : ℕ} → Says c m n v no_call (Value x)
   access_yes : Says c m n v no_call Yes

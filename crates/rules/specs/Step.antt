@@ -1,5 +1,5 @@
 -- One step: state, list of writes and step to answer, state and list. Assumes nothing.
-use Rattle.std.specs.Prelude.{Bool, true, false, List, ℕ, zero, suc, ◌+◌, ◌-◌, eqb, length, Option, unwrap_or, Some, None}
+use Rattle.std.specs.Prelude.{Bool, true, false, List, ℕ, ◌+◌, ◌-◌, eqb, length, Option, unwrap_or, Some, None}
 use Rattle.rules.specs.Access.{slot_cell, access_of, found_by, accessed}
 use Rattle.rules.specs.Calls.{status_name, acted}
 use Rattle.rules.specs.declared.Decided.{Decided}
@@ -12,6 +12,7 @@ use Rattle.state.specs.State.{place, atomic_at, first_of}
 use Rattle.state.specs.declared.Machine.{Machine}
 use Rattle.step.specs.declared.Answer.{Answer}
 use Rattle.step.specs.declared.Answer.TheVariants.{Dash, Value, Refused}
+use Rattle.step.specs.Reason.{number}
 use Rattle.step.specs.declared.Reason.{Reason}
 use Rattle.step.specs.declared.Reason.TheVariants.{CannotStand}
 use Rattle.step.specs.declared.Step.{Step}
@@ -33,9 +34,9 @@ counted n d = record { answer = d.answer; machine = with_steps d.machine n }
 unfoldable pub taken_by : Machine → Step → Access → Option ℕ → Done
 taken_by m s a f = counted (m.steps + 1) (acted (accessed m (s.thread - 1) a) (s.thread - 1) s.verb (value_of f))
 
--- A refused step gives back the same state and list.
+-- A refused step is answered by its reason's number, and gives back the same state and list.
 abbrev pub refused_by : Reason → Machine → Decided
-refused_by r m = record { done = record { answer = Refused r; machine = m }; wrote = NoAccess }
+refused_by r m = record { done = record { answer = Refused (number r); machine = m }; wrote = NoAccess }
 
 -- what is decided of a step by the reason that it is refused for, if there is one: what it does, and the access whose write is recorded
 abbrev pub decided_by : Option Reason → Machine → Step → Access → Option ℕ → Decided
@@ -69,7 +70,7 @@ step_of m ws s = outcome (decided_of m ws s).done (recorded (decided_of m ws s).
 -- What a queue holds: the weight at the greatest stamp of the rank's slot if its status is 2 times rank plus 1, else `-`; of a state that
 -- cannot stand, 14.
 abbrev pub content_if : Bool → Bool → ℕ → Answer
-content_if false b v = Refused CannotStand
+content_if false b v = Refused (number CannotStand)
 content_if true true v = Value v
 content_if true false v = Dash
 

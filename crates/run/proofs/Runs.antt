@@ -18,13 +18,10 @@ use Rattle.rules.specs.declared.Done.{Done}
 use Rattle.schedule.specs.declared.Section.{Section}
 use Rattle.standing.specs.Stands.{stands}
 use Rattle.state.specs.declared.Machine.{Machine}
-use Rattle.step.proofs.Answered.{by_reason}
-use Rattle.step.proofs.Numbered.{above_zero}
+use Rattle.step.proofs.Answered.{by_refusal, refusal_above}
 use Rattle.step.specs.Answer.{number_of}
-use Rattle.step.specs.Reason.{number_by}
-use Rattle.step.specs.Refused.{reason_of}
+use Rattle.step.specs.Refused.{refused_in, number_in}
 use Rattle.step.specs.declared.Answer.{Answer}
-use Rattle.step.specs.declared.Reason.{Reason}
 use Rattle.step.specs.declared.Step.{Step}
 use Rattle.texts.specs.Schedule.{steps_at}
 use Rattle.turn.proofs.Steps.{asks_ahead, known_ahead}
@@ -84,7 +81,7 @@ none_asked None h = refl
 
 -- what is left of a turn once its step was answered
 abbrev pub WentOn : List ℕ → Going → Step → Answer → List ℕ → Going → List ℕ → Type 0
-WentOn text g s a out r out' = (r ≡ going_after (reason_of a) text g s a out) × (out' ≡ left_after (reason_of a) g s a out)
+WentOn text g s a out r out' = (r ≡ going_after (refused_in a) text g s a out) × (out' ≡ left_after (refused_in a) g s a out)
 
 -- on its way still, with fewer steps ahead than before
 abbrev pub Nearer : List ℕ → Machine → Going → Going → List Write → List ℕ → Run → List ℕ → Type 0
@@ -112,25 +109,25 @@ module _ {text : List ℕ} {x : Run} {before : List ℕ} where
     o = b ∙ as_known m ws s a.known (w.stood a e)
 
     -- a state from which a step was taken stands, and so does the one after
-    stood_after : reason_of d.answer ≡ None → stands d.machine ws' ≡ true
+    stood_after : refused_in d.answer ≡ None → stands d.machine ws' ≡ true
     unfolding refusal_of
     stood_after z =
-        let p = (passed _ _ _ _ _ _ (no_refusal m ws s (ap (λ (u : Outcome). number_of u.done.answer) (sym o) ∙ by_reason d.answer ∙ ap number_by z))).0 in
+        let p = (passed _ _ _ _ _ _ (no_refusal m ws s (ap (λ (u : Outcome). number_of u.done.answer) (sym o) ∙ by_refusal d.answer ∙ ap number_in z))).0 in
         ap (λ (u : Outcome). stands u.done.machine u.writes) o ∙ standing_kept m ws s p.stands
 
     -- before a step that is taken: its answer, and the steps after it
-    left_taken : reason_of d.answer ≡ None
+    left_taken : refused_in d.answer ≡ None
         → left_of text m g ws ≡ tells (record { thread = s.thread; answer = d.answer }) (ran d.machine ws' (steps_at text g.ahead.rest))
     unfolding ran
     left_taken z = rw (e, ← o, z)
 
     -- before a step that is refused: nothing more
-    left_refused : (k : Reason) → reason_of d.answer ≡ Some k → left_of text m g ws ≡ stops m ws (Some k)
+    left_refused : (k : ℕ) → refused_in d.answer ≡ Some k → left_of text m g ws ≡ stops m ws (Some k)
     unfolding ran
     left_refused k z = rw (e, ← o, z)
 
     -- the step that was asked is taken
-    way_taken : reason_of d.answer ≡ None → Nearer text d.machine g r ws' out' x before
+    way_taken : refused_in d.answer ≡ None → Nearer text d.machine g r ws' out' x before
     way_taken z =
         let q = rw z at h in
         let rest = g.ahead.rest in
@@ -145,10 +142,10 @@ module _ {text : List ℕ} {x : Run} {before : List ℕ} where
         )
 
     -- it is refused: the same state and list, and nothing more
-    way_refused : (k : Reason) → reason_of d.answer ≡ Some k → Nearer text d.machine g r ws' out' x before
+    way_refused : (k : ℕ) → refused_in d.answer ≡ Some k → Nearer text d.machine g r ws' out' x before
     way_refused k z =
         let q = rw z at h in
-        let same = refused_keeps m ws s (rw (← o, by_reason d.answer, z) (above_zero k)) in
+        let same = refused_keeps m ws s (rw (← o, by_refusal d.answer, z) (refusal_above d.answer k z)) in
         let off = ap (λ (j : Going). j.ahead.asked) q.0 in
         let is : left_of text d.machine r ws' ≡ left_of text m g ws
         = left_none text d.machine r ws' off
@@ -161,9 +158,9 @@ module _ {text : List ℕ} {x : Run} {before : List ℕ} where
 
     -- it is done
     pub way_goes : Nearer text d.machine g r ws' out' x before
-    way_goes = either (reason_of d.answer) refl
+    way_goes = either (refused_in d.answer) refl
       where
-        either : (q : Option Reason) → reason_of d.answer ≡ q → Nearer text d.machine g r ws' out' x before
+        either : (q : Option ℕ) → refused_in d.answer ≡ q → Nearer text d.machine g r ws' out' x before
         either None z = way_taken z
         either (Some k) z = way_refused k z
 

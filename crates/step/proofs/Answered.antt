@@ -1,13 +1,12 @@
--- An answer's number is that of its reason, at most 14. Assumes nothing.
+-- A reason's number is at most 14, and the number of an answer is that of its refusal. Assumes nothing.
 use mathlib.Core.Path.{◌≡◌, refl}
-use Prim.Native.Nat.{◌≤◌}
+use Prim.Native.Nat.{ℕ, zero, suc, ◌<◌, ◌≤◌}
 use native.Mathlib.Omega.{arith}
-use Rattle.std.specs.Prelude.{None}
+use Rattle.std.specs.Prelude.{Some}
 use Rattle.step.specs.Answer.{number_of}
-use Rattle.step.specs.Reason.{number, number_by}
-use Rattle.step.specs.Refused.{reason_of}
+use Rattle.step.specs.Reason.{number}
+use Rattle.step.specs.Refused.{if_any, refused_in, number_in}
 use Rattle.step.specs.declared.Answer.{Answer}
-use Rattle.step.specs.declared.Answer.TheVariants as answer
 use Rattle.step.specs.declared.Reason.{Reason}
 use Rattle.step.specs.declared.Reason.TheVariants.{OutOfRange, StepsTaken, NoSuchThread, NotDue, NoSuchCell, TooGreat, NoRecordFree, Outdated, Amiss, CannotStand}
 
@@ -23,23 +22,17 @@ up_to_14 Outdated = omega arith
 up_to_14 Amiss = omega arith
 up_to_14 CannotStand = omega arith
 
-pub by_reason : (a : Answer) → number_of a ≡ number_by (reason_of a)
-by_reason answer.Dash = refl
-by_reason answer.Ok = refl
-by_reason (answer.Value v) = refl
-by_reason answer.Yes = refl
-by_reason answer.No = refl
-by_reason answer.None = refl
-by_reason (answer.Got w) = refl
-by_reason (answer.Refused r) = refl
+by_any : (n : ℕ) → n ≡ number_in (if_any n)
+by_any zero = refl
+by_any (suc n) = refl
 
--- an answer that is no refusal has no reason
-pub unrefused : (a : Answer) → ((r : Reason) → a ≡ answer.Refused r → ⊥) → reason_of a ≡ None
-unrefused answer.Dash h = refl
-unrefused answer.Ok h = refl
-unrefused (answer.Value v) h = refl
-unrefused answer.Yes h = refl
-unrefused answer.No h = refl
-unrefused answer.None h = refl
-unrefused (answer.Got w) h = refl
-unrefused (answer.Refused r) h = absurd (h r refl)
+pub by_refusal : (a : Answer) → number_of a ≡ number_in (refused_in a)
+by_refusal a = by_any (number_of a)
+
+any_above : (n k : ℕ) → if_any n ≡ Some k → 0 < k
+any_above zero k e = absurd cc
+any_above (suc n) k e = let z : suc n ≡ k = cc in omega arith
+
+-- a refusal's number is above 0
+pub refusal_above : (a : Answer) (k : ℕ) → refused_in a ≡ Some k → 0 < k
+refusal_above a k e = any_above (number_of a) k e

@@ -1,15 +1,17 @@
--- Why a step was refused, by its answer. Assumes nothing.
-use Rattle.std.specs.Prelude.{Option, Some, None}
+-- The number that a step was refused by, by its answer. Assumes nothing.
+use Rattle.std.specs.Prelude.{ℕ, zero, suc, Option, Some, None}
+use Rattle.step.specs.Answer.{number_of}
 use Rattle.step.specs.declared.Answer.{Answer}
-use Rattle.step.specs.declared.Answer.TheVariants as answer
-use Rattle.step.specs.declared.Reason.{Reason}
 
-abbrev pub reason_of : Answer → Option Reason
-reason_of answer.Dash = None
-reason_of answer.Ok = None
-reason_of (answer.Value v) = None
-reason_of answer.Yes = None
-reason_of answer.No = None
-reason_of answer.None = None
-reason_of (answer.Got w) = None
-reason_of (answer.Refused r) = Some r
+-- 0 is no refusal's
+abbrev pub if_any : ℕ → Option ℕ
+if_any zero = None
+if_any (suc n) = Some (suc n)
+
+abbrev pub refused_in : Answer → Option ℕ
+refused_in a = if_any (number_of a)
+
+-- and of a refusal, if there is one: 0 where nothing is refused
+abbrev pub number_in : Option ℕ → ℕ
+number_in None = 0
+number_in (Some n) = n

@@ -10,7 +10,6 @@ use Rattle.printed.specs.Printed.{answer_line, placed_next, put_next}
 use Rattle.schedule.specs.declared.Section.{Section}
 use Rattle.state.specs.declared.Machine.{Machine}
 use Rattle.step.specs.declared.Answer.{Answer}
-use Rattle.step.specs.declared.Reason.{Reason}
 use Rattle.step.specs.declared.Step.{Step}
 use Rattle.texts.specs.Schedule.{step_in, steps_at}
 use Rattle.turn.specs.declared.Ahead.{Ahead}
@@ -40,17 +39,17 @@ ahead_of text s known = ahead_if s.count (read_line StepDue text s.at) s known
 abbrev pub begun : List ℕ → Section → Going
 begun text s = record { ahead = ahead_of text s false; refused = None; upto = Some 0 }
 
--- after a step that was asked and was taken or refused for a reason: the line of a taken one is put, and the next is asked; a refused one
+-- after a step that was asked and was taken or refused by a number: the line of a taken one is put, and the next is asked; a refused one
 -- is the last
-abbrev pub going_after : Option Reason → List ℕ → Going → Step → Answer → List ℕ → Going
+abbrev pub going_after : Option ℕ → List ℕ → Going → Step → Answer → List ℕ → Going
 going_after None text g s a out =
     record { ahead = ahead_of text g.ahead.rest true; refused = None; upto = put_next out g.upto (answer_line s.thread a) }
-going_after (Some r) text g s a out = record { ahead = nothing_ahead g.ahead.rest; refused = Some r; upto = g.upto }
+going_after (Some n) text g s a out = record { ahead = nothing_ahead g.ahead.rest; refused = Some n; upto = g.upto }
 
 -- and the buffer
-abbrev pub left_after : Option Reason → Going → Step → Answer → List ℕ → List ℕ
+abbrev pub left_after : Option ℕ → Going → Step → Answer → List ℕ → List ℕ
 left_after None g s a out = placed_next out g.upto (answer_line s.thread a)
-left_after (Some r) g s a out = out
+left_after (Some n) g s a out = out
 
 abbrev pub ended_of : Machine → Going → List Write → Ended
 ended_of m g ws = record { machine = m; refused = g.refused; upto = g.upto; writes = ws }

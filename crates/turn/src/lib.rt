@@ -3,7 +3,7 @@
 #![tactic(auto)]
 
 ghost use Rattle.std.specs.Prelude.{◌≡◌, replicate};
-ghost use Rattle.step.specs.Refused.{reason_of};
+ghost use Rattle.step.specs.Refused.{refused_in};
 ghost use Rattle.texts.specs.Schedule.{step_in};
 ghost use Rattle.writes.specs.Records.{no_write};
 ghost use Rattle.turn.specs.Going.{nothing_ahead, ahead_of, begun, going_after, left_after, ended_of};
@@ -12,7 +12,7 @@ use asking::Asked;
 use form::{Due, Line};
 use schedule::Section;
 use state::Machine;
-use step::{Answer, Reason, Step, Verb};
+use step::{Answer, Step, Verb};
 use writes::Write;
 
 // What the text of a run asks next: the step, if there is one, and the lines after it. Once a step was taken, the state is known to stand.
@@ -22,11 +22,11 @@ pub struct Ahead {
     pub rest: Section,
 }
 
-// A run on its way: what it asks next, why its last step was refused, if it was, and the place after the answers' lines.
+// A run on its way: what it asks next, the number that its last step was refused by, if it was, and the place after the answers' lines.
 #[derive(Clone, Copy)]
 pub struct Going {
     pub ahead: Ahead,
-    pub refused: Option<Reason>,
+    pub refused: Option<u32>,
     pub upto: Option<usize>,
 }
 
@@ -34,7 +34,7 @@ pub struct Going {
 #[derive(Clone, Copy)]
 pub struct Ended {
     pub machine: Machine,
-    pub refused: Option<Reason>,
+    pub refused: Option<u32>,
     pub upto: Option<usize>,
     pub writes: [Write; 1024],
 }
@@ -100,15 +100,15 @@ pub fn begin(text: &[u8], s: Section) -> Going
 // After a step that was asked: the line of one that was taken is put into the buffer, and the next is asked; one that was refused is the
 // last.
 pub fn go_on(text: &[u8], out: &mut [u8], g: Going, step: Step, answer: Answer) -> Going
-    ensures { (result ≡ going_after (reason_of answer) text.now g step answer out.old) × (out.new ≡ left_after (reason_of answer) g step answer out.old) }
+    ensures { (result ≡ going_after (refused_in answer) text.now g step answer out.old) × (out.new ≡ left_after (refused_in answer) g step answer out.old) }
 {
     let rest = g.ahead.rest;
     let upto = g.upto;
-    if let Answer::Refused { reason } = answer {
+    if let Some(number) = answer.refused() {
         let ahead = nothing_ahead(rest);
         return Going {
             ahead,
-            refused: Some(reason),
+            refused: Some(number),
             upto,
         };
     }

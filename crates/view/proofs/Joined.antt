@@ -28,7 +28,7 @@ join_step zero (x ∷ a) [] h l = absurd (omega arith)
 join_step (suc k) (x ∷ a) [] h l = absurd (omega arith)
 
 -- past the end of the first list nothing more is joined
-join_past : (j k : ℕ) (a b : List ℕ) → length a ≤ j → length a ≤ k → join_to j a b ≡ join_to k a b
+pub join_past : (j k : ℕ) (a b : List ℕ) → length a ≤ j → length a ≤ k → join_to j a b ≡ join_to k a b
 unfolding join_to
 join_past zero zero a b h l = refl
 join_past zero (suc k) [] b h l = refl

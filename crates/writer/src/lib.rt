@@ -2,7 +2,7 @@
 #![tactic(auto)]
 
 ghost use Rattle.std.specs.Prelude.{◌≡◌, ◌+◌, ◌≤◌, length};
-ghost use Rattle.number.specs.Buffer.{Wrote};
+ghost use Rattle.number.specs.Buffer.{put_at, placed, Wrote};
 ghost use Rattle.form.specs.Text.{word_text, operand_text, lead_text, form_text, fields_text};
 ghost use Rattle.writer.specs.Writer.{line_written, line_placed};
 
@@ -15,13 +15,20 @@ pub enum Unwritten {
     NoRoom,
 }
 
+// A word up to its end or a 0, at a place of a lent buffer.
+pub fn put_word(buf: &mut [u8], at: usize, w: &[u8]) -> Option<usize>
+    ensures { (result ≡ put_at buf.old at (word_text w.now)) × (buf.new ≡ placed buf.old at (word_text w.now)) }
+{
+    let n = measure::word_width(w);
+    number::put_bytes(buf, at, &w[..n])
+}
+
 // A word up to its end or a 0, where there is room: the next place.
 fn write_word(buf: &mut [u8], at: usize, w: &[u8]) -> usize
     requires { at + length (word_text w.now) ≤ length buf.old }
     ensures { Wrote buf.old at (word_text w.now) result buf.new }
 {
-    let n = measure::word_width(w);
-    number::put_bytes(buf, at, &w[..n]).unwrap_or(at)
+    put_word(buf, at, w).unwrap_or(at)
 }
 
 // An operand with the space before it, where there is room: the next place.

@@ -1,3 +1,4 @@
+use Rattle.std.proofs.Common.{rules}
 use Rattle.printed.specs.Printed.{answer_line}
 use Rattle.printed.proofs.answer_line.Goals as goal
 
@@ -31,4 +32,4 @@ returns-in-Got c = rw c.in-Got.is
 
 pub returns-in-Refused : goal.returns-in-Refused
 unfolding answer_line
-returns-in-Refused c = rw (c.in-Refused.is, c.number.ensures)
+returns-in-Refused c = search (rules, c.in-Refused.is)

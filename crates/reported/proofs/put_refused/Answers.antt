@@ -11,4 +11,4 @@ returns-in-None c =
 pub returns-in-Some : goal.returns-in-Some
 returns-in-Some c =
     rw c.in-Some.is
-    (refused_two c.args.out.now c.args.upto c.args.taken c.in-Some.reason (rw c.count_line-in-Some.ensures at c.put_next-w.ensures) (rw c.number-number.ensures at c.put_next-in-Some.ensures))
+    (refused_two c.args.out.now c.args.upto c.args.taken c.in-Some.number (rw c.count_line-in-Some.ensures at c.put_next-w.ensures) c.put_next-in-Some.ensures)

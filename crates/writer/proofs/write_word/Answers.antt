@@ -1,11 +1,5 @@
-use mathlib.Core.Path.{sym, ap}
-use lib.ListN.{length}
-use Rattle.measure.proofs.Widths.{word_front}
 use Rattle.writer.proofs.Laws.{wrote_of}
 use Rattle.writer.proofs.write_word.Goals as goal
 
-pub slice_bounds-put_bytes-end : goal.slice_bounds-put_bytes-end
-slice_bounds-put_bytes-end c = rw c.word_width-n.ensures (sym (ap length (word_front c.args.w.now)))
-
 pub returns : goal.returns
-returns c = wrote_of c.requires (rw (c.word_width-n.ensures, word_front c.args.w.now) at c.put_bytes.ensures) c.unwrap_or.ensures
+returns c = wrote_of c.requires c.put_word.ensures c.unwrap_or.ensures

@@ -1,5 +1,6 @@
-use mathlib.Core.Path.{refl, ap, ◌∙◌}
-use native.Mathlib.Numerals.{add-one}
+use mathlib.Core.Path.{◌≡◌, refl, ap, ◌∙◌}
+use Prim.Native.Nat.{suc, ◌+◌}
+use native.Mathlib.Omega.{arith}
 use Rattle.std.proofs.lemmas.List.{take_all, take_min}
 use Rattle.writes.specs.Searched.{searched}
 use Rattle.writes.proofs.Searched.{searched_more}
@@ -10,7 +11,9 @@ unfolding searched
 loop-w-init c = refl
 
 pub loop-w-preserved : goal.loop-w-preserved
-loop-w-preserved c = rw add-one (cc (searched_more c.args.from _ _ c.loop-w-test.true))
+loop-w-preserved c =
+    let e : c.loop-w.w-index + 1 ≡ suc c.loop-w.w-index = omega arith in
+    rw e (cc (searched_more c.args.from _ _ c.loop-w-test.true))
 
 pub returns : goal.returns
 returns c =
